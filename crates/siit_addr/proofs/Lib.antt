@@ -1,0 +1,10 @@
+pub mod DigitTexts
+pub mod GapTexts
+pub mod GroupLists
+pub mod GroupsWritten
+pub mod Ipv4ReadAgain
+pub mod Ipv6ReadAgain
+pub mod Lacking
+pub mod NumberIn
+pub mod Parts
+pub mod ZeroRuns

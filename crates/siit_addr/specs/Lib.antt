@@ -1,0 +1,4 @@
+pub mod Addresses
+pub mod Canonical
+pub mod TextExamples
+pub mod Texts
