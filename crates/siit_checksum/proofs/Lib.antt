@@ -1,0 +1,4 @@
+pub mod Residues
+pub mod Numbers
+pub mod Digits
+pub mod Fields
