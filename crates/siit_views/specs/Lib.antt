@@ -1,0 +1,4 @@
+pub mod Contents
+pub mod Headers
+pub mod Lending
+pub mod Parts
