@@ -1,0 +1,3 @@
+pub mod Icmp
+pub mod Parts
+pub mod Examples
