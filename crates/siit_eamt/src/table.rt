@@ -1,0 +1,162 @@
+ghost use Rattle.std.specs.Prelude.{◌≡◌, ◌+◌, ◌<◌, ◌≤◌, ◌↔◌, ◌⊎◌, Err, IfErr, IfOk, IsTrue, None, OnOk, Some, length, option_map};
+ghost use Rattle.std.specs.List.{slice_get};
+ghost use Rattle.siit_eamt.specs.Disjoint.{IsDisjoint};
+ghost use Rattle.siit_eamt.specs.Entries.{back, forth, holds4, holds6, length4, length6};
+ghost use Rattle.siit_eamt.specs.Faults.{table_fault};
+ghost use Rattle.siit_eamt.specs.Scan.{longer};
+ghost use Rattle.siit_eamt.specs.declared.entry.EamFault.TheVariants.{NoMemory, TooMany};
+
+use crate::apart::{are_apart4, are_apart6, are_clear_of};
+use crate::check::{check, sorted4, sorted6};
+use crate::entry::{Eam, EamFault, Hit4, Hit6};
+use crate::steps::Steps;
+use siit_addr::{Addr4, Addr6, Prefix4, Prefix6};
+use std::alloc::Global;
+use std::marker::Model;
+use std::sync::ledger::Ledger;
+
+/// An accepted table, seen as its list of entries.
+#[derive(Drop)]
+pub struct Eamt {
+    pub(crate) entries: Vec<Eam>,
+    pub(crate) sorted4: Vec<Prefix4>,
+    pub(crate) sorted6: Vec<Prefix6>,
+}
+
+impl Model for Eamt {
+    ghost use Rattle.std.specs.Prelude.{List};
+    ghost use Rattle.siit_eamt.specs.declared.entry.Eam.{Eam};
+    ghost use Rattle.siit_eamt.specs.Table.{IsTable};
+
+    ghost Value = { List Eam };
+
+    ghost view = { λ t. t.entries.items };
+
+    ghost invariant = { λ t. IsTable t.entries.items t.sorted4.items t.sorted6.items };
+}
+
+/// An entry with its place.
+type Placed = (u32, Eam);
+
+/// How many entries a table may have.
+const MOST_ENTRIES: usize = 65_536;
+
+impl Eamt {
+    /// The table of these entries, or the fault of the first entry at fault; an entry's faults come in the order of
+    /// [`EamFault`].
+    pub fn build(alloc: Global, entries: &[Eam]) -> Result<Eamt, EamFault>
+        ensures accepted { IfOk result (λ table. table ≡ entries.now) }
+        ensures faultless { OnOk result (table_fault entries.now ≡ None) }
+        ensures refused { IfErr result (λ fault. (fault ≡ NoMemory) ⊎ (table_fault entries.now ≡ Some fault)) }
+        ensures too_many { 65536 < length entries.now → result ≡ Err TooMany }
+    {
+        if entries.len() > MOST_ENTRIES {
+            return Err(EamFault::TooMany);
+        }
+        check(alloc, entries)?;
+        let sorted4 = sorted4(alloc, entries)?;
+        let sorted6 = sorted6(alloc, entries)?;
+        let entries = Vec::from_slice(alloc, entries)?;
+        Ok(Eamt {
+            entries,
+            sorted4,
+            sorted6,
+        })
+    }
+
+    /// The entries, in the order in which they were given.
+    pub fn entries(&self) -> &[Eam]
+        ensures value { result.now ≡ self.now }
+        ensures accepted { table_fault self.now ≡ None }
+    {
+        &self.entries
+    }
+
+    /// The entry of greatest IPv4 length among all that hold the address, and the IPv6 address (RFC 7757 section 3.3.1).
+    pub fn find4<L: Ledger>(&self, a: Addr4, steps: &mut Steps<L>) -> Option<Hit6>
+        ensures found { option_map (λ hit. (hit.entry, hit.address.0)) result ≡ forth self.now a.0 }
+        ensures cost { steps.new ≤ steps.old + length self.now }
+        ensures counted { steps.old ≤ steps.new }
+    {
+        let mut best = None;
+        for place in 0..self.len() {
+            let entry = self.read(place, steps);
+            best = longer4(best, (place, entry), a);
+        }
+        let Some((entry, eam)) = best else {
+            return None;
+        };
+        Some(Hit6 {
+            entry,
+            address: eam.up(a),
+        })
+    }
+
+    /// The entry of greatest IPv6 length among all that hold the address, and the IPv4 address (RFC 7757 section 3.3.2).
+    pub fn find6<L: Ledger>(&self, x: Addr6, steps: &mut Steps<L>) -> Option<Hit4>
+        ensures found { option_map (λ hit. (hit.entry, hit.address.0)) result ≡ back self.now x.0 }
+        ensures cost { steps.new ≤ steps.old + length self.now }
+        ensures counted { steps.old ≤ steps.new }
+    {
+        let mut best = None;
+        for place in 0..self.len() {
+            let entry = self.read(place, steps);
+            best = longer6(best, (place, entry), x);
+        }
+        let Some((entry, eam)) = best else {
+            return None;
+        };
+        Some(Hit4 {
+            entry,
+            address: eam.down(x),
+        })
+    }
+
+    /// Whether no two IPv4 prefixes overlap, no two IPv6 prefixes overlap, and none overlaps `prefix`.
+    pub fn is_disjoint(&self, prefix: Prefix6) -> bool
+        ensures { IsTrue result ↔ IsDisjoint self.now prefix }
+    {
+        are_apart4(&self.sorted4)
+            && are_apart6(&self.sorted6)
+            && are_clear_of(&self.entries, prefix)
+    }
+
+    /// The entry at a place. It is the only way in which a look-up reads the table, and one step.
+    fn read<L: Ledger>(&self, place: u32, steps: &mut Steps<L>) -> Eam
+        requires { place < length self.now }
+        ensures entry { slice_get self.now place ≡ Some result }
+        ensures step { steps.new ≡ steps.old + 1 }
+    {
+        steps.tick();
+        self.entries[place as usize]
+    }
+
+    /// How many entries there are, at most 65,536.
+    fn len(&self) -> u32
+        ensures value { result ≡ length self.now }
+        ensures accepted { table_fault self.now ≡ None }
+    {
+        self.entries.len() as u32
+    }
+}
+
+/// The longest so far and one more entry: the entry where it holds the address and is longer.
+fn longer4(best: Option<Placed>, next: Placed, a: Addr4) -> Option<Placed>
+    ensures { result ≡ longer (holds4 a.0) length4 best next }
+{
+    match best {
+        Some((_, entry)) if entry.p4.len >= next.1.p4.len => best,
+        _ if next.1.p4.holds(a) => Some(next),
+        _ => best,
+    }
+}
+
+fn longer6(best: Option<Placed>, next: Placed, x: Addr6) -> Option<Placed>
+    ensures { result ≡ longer (holds6 x.0) length6 best next }
+{
+    match best {
+        Some((_, entry)) if entry.p6.len >= next.1.p6.len => best,
+        _ if next.1.p6.holds(x) => Some(next),
+        _ => best,
+    }
+}

@@ -1,0 +1,125 @@
+ghost use Rattle.std.specs.Prelude.{◌≡◌, ◌<◌};
+
+use crate::{Eam, EamFault, Eamt, Hit4, Hit6, Steps};
+use siit_addr::{Addr4, Addr6, Prefix4, Prefix6};
+use std::marker::Brand;
+use std::process::Abort;
+use std::sync::ledger::{Blank, Ledger};
+
+fn prefix6(addr: u128, len: u8) -> Prefix6 {
+    Prefix6 {
+        addr: Addr6(addr),
+        len: len.min(128),
+    }
+}
+
+fn entry(a: u32, l4: u8, x: u128, l6: u8) -> Eam {
+    Eam {
+        p4: Prefix4 {
+            addr: Addr4(a),
+            len: l4.min(32),
+        },
+        p6: prefix6(x, l6),
+    }
+}
+
+fn look_up<L: Ledger>(
+    rt: &impl Abort,
+    table: &Eamt,
+    blank: Blank,
+    rows4: &[(u32, Option<(u32, u128)>)],
+    rows6: &[(u128, Option<(u32, u32)>)],
+)
+    requires name { blank.name ≡ L.name }
+    requires parts { blank.parts ≡ L.parts }
+    requires some { 0 < blank.parts }
+{
+    let mut steps = Steps::<L>::new(blank);
+    for (a, want) in rows4 {
+        let want = want.map(|(entry, x)| Hit6 {
+            entry,
+            address: Addr6(x),
+        });
+        assert_eq!(rt; table.find4(Addr4(*a), &mut steps), want);
+    }
+    for (x, want) in rows6 {
+        let want = want.map(|(entry, a)| Hit4 {
+            entry,
+            address: Addr4(a),
+        });
+        assert_eq!(rt; table.find6(Addr6(*x), &mut steps), want);
+    }
+}
+
+/// 192.0.2.192/29 with 2001:db8:eeee:8::/62 of RFC 7757's kind, and prefixes inside one another.
+#[test]
+fn looks_up(rt: HostRuntime) {
+    let alone = [entry(0xc000_02c0, 29, 0x2001_0db8_eeee_0008 << 64, 62)];
+    let table = Eamt::build(rt.alloc(), &alone).expect(&rt, "a table");
+    look_up::<Brand>(
+        &rt,
+        &table,
+        Blank::new(1),
+        &[
+            (
+                0xc000_02c1,
+                Some((0, 0x2001_0db8_eeee_0008_8000_0000_0000_0000)),
+            ),
+            (
+                0xc000_02c6,
+                Some((0, 0x2001_0db8_eeee_000b_0000_0000_0000_0000)),
+            ),
+            (0xc000_02c8, None),
+        ],
+        &[(
+            0x2001_0db8_eeee_0008_8000_0000_0000_0005,
+            Some((0, 0xc000_02c1)),
+        )],
+    );
+    assert!(rt; table.is_disjoint(prefix6(0x64ff9b << 96, 96)));
+    assert!(rt; !table.is_disjoint(prefix6(0x2001_0db8 << 96, 32)));
+    assert_eq!(rt; table.entries().len(), 1);
+
+    let nested = [
+        entry(0xc633_6400, 24, 0x2001_0db8_000a << 80, 120),
+        entry(0xc633_6407, 32, (0x2001_0db8_000b << 80) + 7, 128),
+    ];
+    let table = Eamt::build(rt.alloc(), &nested).expect(&rt, "a table");
+    look_up::<Brand>(
+        &rt,
+        &table,
+        Blank::new(1),
+        &[
+            (0xc633_6407, Some((1, (0x2001_0db8_000b << 80) + 7))),
+            (0xc633_6408, Some((0, (0x2001_0db8_000a << 80) + 8))),
+        ],
+        &[((0x2001_0db8_000a << 80) + 7, Some((0, 0xc633_6407)))],
+    );
+    assert!(rt; !table.is_disjoint(prefix6(0x64ff9b << 96, 96)));
+}
+
+#[test]
+fn refuses_entries(rt: HostRuntime) {
+    let suffix = [entry(0xc000_0200, 24, 0x2001_0db8 << 96, 121)];
+    assert!(rt;
+        matches!(
+            Eamt::build(rt.alloc(), &suffix),
+            Err(EamFault::SuffixTooLong(0))
+        )
+    );
+}
+
+/// The largest table is built, and one entry more is refused.
+#[test]
+fn counts_entries(rt: HostRuntime) {
+    let mut entries = Vec::new(rt.alloc());
+    for a in 0..65_537u32 {
+        entries
+            .push(entry(a << 8, 24, u128::from(a) << 8, 120))
+            .expect(&rt, "memory");
+    }
+    assert!(rt; matches!(Eamt::build(rt.alloc(), &entries), Err(EamFault::TooMany)));
+    let _last = entries.pop();
+    let table = Eamt::build(rt.alloc(), &entries).expect(&rt, "a table");
+    assert!(rt; table.is_disjoint(prefix6(0x64ff9b << 96, 96)));
+}
