@@ -1,0 +1,4 @@
+pub mod Prefixed
+pub mod Mapping
+pub mod View
+pub mod Reversible
