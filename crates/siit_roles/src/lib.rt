@@ -1,0 +1,10 @@
+//! The roles of devices, what a role refuses, and the settings of a chain.
+#![tactic(auto)]
+
+mod chain;
+mod role;
+mod settings;
+
+pub use chain::ChainSettings;
+pub use role::{Role, role_refuses4, role_refuses6};
+pub use settings::Settings;
