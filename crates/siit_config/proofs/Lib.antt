@@ -1,0 +1,7 @@
+pub mod Apart
+pub mod Boundary
+pub mod Documents
+pub mod KeyLaws
+pub mod Prefixes
+pub mod Steps
+pub mod TextPairs

@@ -1,0 +1,6 @@
+pub mod Texts
+pub mod Faults
+pub mod Keys
+pub mod Devices
+pub mod Config
+pub mod Examples

@@ -1,0 +1,16 @@
+ghost use Rattle.siit_config.specs.Examples.{
+  APairIsAccepted,
+  ACustomerIsAccepted,
+  TopLevelIsRefused,
+  DevicesAreRefused,
+  NestedPrefixesAreAccepted,
+};
+
+/// The definition of the configuration gives the worked examples. There is nothing to run.
+pub fn configuration_examples()
+    ensures pair { APairIsAccepted }
+    ensures customer { ACustomerIsAccepted }
+    ensures top_level { TopLevelIsRefused }
+    ensures devices { DevicesAreRefused }
+    ensures nested { NestedPrefixesAreAccepted }
+{}

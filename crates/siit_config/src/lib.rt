@@ -1,0 +1,20 @@
+//! The configuration of a chain of translators, read from TOML.
+#![tactic(auto)]
+
+mod arrays;
+mod chain;
+mod device;
+mod device_keys;
+mod examples;
+mod fault;
+mod keys;
+mod names;
+mod table;
+mod unknown;
+
+pub use chain::read_config;
+pub use examples::configuration_examples;
+pub use fault::ConfigFault;
+
+#[cfg(test)]
+mod tests;

@@ -1,0 +1,126 @@
+//! The texts of a configuration.
+ghost use Rattle.std.specs.Prelude.{◌≡◌};
+ghost use Rattle.siit_config.specs.Texts.{
+  address4_of,
+  address6_of,
+  clean_prefix_of,
+  either_name,
+  embedding_of,
+  is_local_to,
+  local_embedding_of,
+  mapping_entry_of,
+  prefix4_of,
+  prefix6_of,
+  role_of,
+};
+
+use siit_addr::{Addr4, Addr6, Prefix4, Prefix6};
+use siit_eamt::Eam;
+use siit_rfc6052::Embed;
+use siit_roles::Role;
+
+pub(crate) fn role_of(text: &str) -> Option<Role>
+    ensures { result ≡ role_of text.now }
+{
+    match text {
+        "plain" => Some(Role::Plain),
+        "border" => Some(Role::Border),
+        "edge" => Some(Role::Edge),
+        "customer" => Some(Role::Customer),
+        _ => None,
+    }
+}
+
+/// False for the first name, true for the second.
+pub(crate) fn either_name(off: &str, on: &str, text: &str) -> Option<bool>
+    ensures { result ≡ either_name off.now on.now text.now }
+{
+    if text == off {
+        Some(false)
+    } else if text == on {
+        Some(true)
+    } else {
+        None
+    }
+}
+
+pub(crate) fn address4_of(text: &str) -> Option<Addr4>
+    ensures { result ≡ address4_of text.now }
+{
+    siit_addr::read_addr4(text)
+}
+
+pub(crate) fn address6_of(text: &str) -> Option<Addr6>
+    ensures { result ≡ address6_of text.now }
+{
+    siit_addr::read_addr6(text)
+}
+
+fn prefix4_of(text: &str) -> Option<Prefix4>
+    ensures { result ≡ prefix4_of text.now }
+{
+    siit_addr::read_prefix4(text)
+}
+
+fn prefix6_of(text: &str) -> Option<Prefix6>
+    ensures { result ≡ prefix6_of text.now }
+{
+    siit_addr::read_prefix6(text)
+}
+
+pub(crate) fn clean_prefix_of(text: &str) -> Option<Prefix4>
+    ensures { result ≡ clean_prefix_of text.now }
+{
+    let prefix = prefix4_of(text)?;
+    if prefix.is_clean() {
+        Some(prefix)
+    } else {
+        None
+    }
+}
+
+/// A prefix under which IPv4 addresses are embedded (RFC 6052 section 2.2).
+pub(crate) fn embedding_of(text: &str) -> Option<Embed>
+    ensures { result ≡ embedding_of text.now }
+{
+    Embed::new(prefix6_of(text)?).ok()
+}
+
+/// A prefix that may stand for local addresses beside the provider's prefix.
+pub(crate) fn local_embedding_of(provider: &Embed, text: &str) -> Option<Embed>
+    ensures { result ≡ local_embedding_of provider.now text.now }
+{
+    let embed = embedding_of(text)?;
+    if is_local_to(provider, &embed) {
+        Some(embed)
+    } else {
+        None
+    }
+}
+
+fn is_local_to(provider: &Embed, embed: &Embed) -> bool
+    ensures { result ≡ is_local_to provider.now embed.now }
+{
+    !embed.is_well_known() && !overlap(embed.prefix(), provider.prefix())
+}
+
+ghost use Rattle.siit_eamt.specs.Disjoint.{overlap};
+
+fn overlap(p: Prefix6, q: Prefix6) -> bool
+    ensures { result ≡ overlap 128 p.len p.addr.0 q.len q.addr.0 }
+{
+    if p.len <= q.len {
+        p.holds(q.addr)
+    } else {
+        q.holds(p.addr)
+    }
+}
+
+pub(crate) fn mapping_entry_of(first: &str, second: &str) -> Option<Eam>
+    ensures { result ≡ mapping_entry_of (first.now, second.now) }
+{
+    Some(Eam {
+        p4: prefix4_of(first)?,
+        p6: prefix6_of(second)?,
+    })
+}
