@@ -1,0 +1,3 @@
+pub mod To6
+pub mod Laws
+pub mod Examples

@@ -1,0 +1,16 @@
+//! From IPv4 to IPv6 (RFC 7915 sections 4.1 and 4.2).
+#![tactic(auto)]
+
+mod examples;
+mod fields;
+mod header;
+mod laws;
+mod packet;
+mod upper;
+
+pub use examples::{echo_examples, ones_examples, tcp_examples, udp_sum_examples};
+pub use fields::Head46;
+pub use header::head46;
+pub use laws::{translated_is_good6, written_is_read6};
+pub use packet::translate46;
+pub use upper::{udp_sum6, upper46};
