@@ -1,0 +1,5 @@
+pub mod Parts
+pub mod Heads
+pub mod Written
+pub mod Good
+pub mod Packets

@@ -1,0 +1,3 @@
+pub mod To4
+pub mod Laws
+pub mod Examples

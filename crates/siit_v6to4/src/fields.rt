@@ -1,0 +1,15 @@
+//! The fields of a header that the old header doesn't give.
+use siit_addr::Addr4;
+
+/// What an IPv4 header says that the IPv6 header doesn't.
+#[derive(Clone, Copy, Debug, PartialEq, Eq)]
+pub struct Head64 {
+    /// The source address.
+    pub src: Addr4,
+    /// The destination address.
+    pub dst: Addr4,
+    /// The type of service.
+    pub tos: u8,
+    /// The identification.
+    pub ident: u16,
+}
