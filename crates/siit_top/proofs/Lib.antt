@@ -1,0 +1,10 @@
+pub mod Records
+pub mod Fronts
+pub mod Packets
+pub mod EndLines
+pub mod Carried
+pub mod Outputs
+pub mod Commands
+pub mod Numbers
+pub mod WordCounts
+pub mod MapRuns

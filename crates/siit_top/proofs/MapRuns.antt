@@ -1,0 +1,73 @@
+-- What the status of `map` says.
+use Rattle.std.proofs.Common.{◌≡◌, ◌≢◌, ◌⊎◌, ℕ, ◌≤◌, ◌<◌, List, ◌++◌, length, Bool, true, false, nat_lt, Option, Some, None, Result, Ok, Err, IsTrue, inl, inr, refl, ap, sym, subst, ◌∙◌}
+use Rattle.std.specs.Prelude.{if◌then◌else◌}
+use Rattle.std.proofs.lemmas.Bool.{lt-ltb}
+use Rattle.siit_config.specs.Config.{config_of}
+use Rattle.siit_config.specs.Faults.{Fault, Tells}
+use Rattle.siit_config.specs.declared.fault.ConfigFault.{ConfigFault}
+use Rattle.siit_config.specs.declared.fault.ConfigFault.TheVariants.{NotToml, Missing, WrongKind, BadValue, Unknown, ChainLength, MtuOrder, BadEam, Eam, NotSymmetric, NoMemory}
+use Rattle.siit_roles.specs.Chain.{Chain}
+use Rattle.siit_roles.specs.declared.settings.Settings.{Settings}
+use Rattle.siit_word.specs.Files.{held}
+use Rattle.siit_top.specs.MapLine.{map_line}
+use Rattle.siit_top.specs.MapRun.{Decision, decision, decision_at, decision_by, device_at, no_device, too_long, IsFault, IsMapStatus, IsReadAs, OnDecided, OnMap, OnWhole, Says}
+use Rattle.siit_top.specs.Words.{Address}
+use Rattle.siit_top.specs.declared.status.Status.{Status}
+use Rattle.siit_top.specs.declared.status.Status.TheVariants as status
+
+-- what the bytes of a configuration decide
+pub says_line : (told : Result Chain Fault) (chain : Chain) (settings : Settings) (device : ℕ) (address : Address) (old new : List ℕ) → told ≡ Ok chain → device_at device chain.devices ≡ Some settings → new ≡ old ++ map_line settings.mapping address → Says old new status.Ok (decision_by told device address)
+says_line told chain settings device address old new e h line =
+    subst (λ t. Says old new status.Ok (decision_by t device address)) (sym e)
+    (subst (λ d. Says old new status.Ok (decision_at d address)) (sym h) line)
+
+pub says_no_device : (told : Result Chain Fault) (chain : Chain) (device : ℕ) (address : Address) → told ≡ Ok chain → device_at device chain.devices ≡ None → decision_by told device address ≡ no_device
+says_no_device told chain device address e h =
+    ap (λ t. decision_by t device address) e ∙ ap (λ d. decision_at d address) h
+
+pub says_fault : (fault : ConfigFault) (told : Result Chain Fault) (device : ℕ) (address : Address) → fault ≢ NoMemory → Tells fault told → IsFault fault (decision_by told device address)
+says_fault NotToml told d a ne h = subst (λ t. IsFault NotToml (decision_by t d a)) (sym h) (ne, refl)
+says_fault (Missing device key) told d a ne h = subst (λ t. IsFault (Missing device key) (decision_by t d a)) (sym h) (ne, refl)
+says_fault (WrongKind device key) told d a ne h = subst (λ t. IsFault (WrongKind device key) (decision_by t d a)) (sym h) (ne, refl)
+says_fault (BadValue device key) told d a ne h = subst (λ t. IsFault (BadValue device key) (decision_by t d a)) (sym h) (ne, refl)
+says_fault (Unknown device key) told d a ne h = subst (λ t. IsFault (Unknown device key) (decision_by t d a)) (sym h) (ne, refl)
+says_fault ChainLength told d a ne h = subst (λ t. IsFault ChainLength (decision_by t d a)) (sym h) (ne, refl)
+says_fault (MtuOrder device) told d a ne h = subst (λ t. IsFault (MtuOrder device) (decision_by t d a)) (sym h) (ne, refl)
+says_fault (BadEam device entry) told d a ne h = subst (λ t. IsFault (BadEam device entry) (decision_by t d a)) (sym h) (ne, refl)
+says_fault (Eam device fault) told d a ne h = subst (λ t. IsFault (Eam device fault) (decision_by t d a)) (sym h.1) (ne, (h.0, refl))
+says_fault (NotSymmetric device) told d a ne h = subst (λ t. IsFault (NotSymmetric device) (decision_by t d a)) (sym h) (ne, refl)
+says_fault NoMemory told d a ne h = absurd (ne refl)
+
+pub ruleset decided = (says_line, says_no_device, says_fault)
+
+-- where the bytes are told, they are the file's
+read_as : (s : Status) (told : Bool) (file : Option (List ℕ)) (device : ℕ) (address : Address) (old new : List ℕ) → IsReadAs told file device address old new s → IsTrue told → Says old new s (decision (held file) device address)
+read_as s told file device address old new r t =
+    subst (λ f. Says old new s (decision (held f) device address)) (sym (r.read t)) r.says
+
+is_long : (bytes : List ℕ) (device : ℕ) (address : Address) → 1048576 < length bytes → decision bytes device address ≡ too_long
+is_long bytes device address lt =
+    ap (λ b. if b then too_long else decision_by (config_of bytes) device address) (lt-ltb 1048576 (length bytes) lt)
+
+pub decided_by : (s : Status) (told : Bool) (file : Option (List ℕ)) (device : ℕ) (address : Address) (old new : List ℕ) → IsMapStatus s → OnWhole s (IsReadAs told file device address old new s) → ((word : ℕ) → s ≡ status.TooLong word → IsTrue told → 1048576 < length (held file)) → IsTrue told → OnDecided s (Says old new s (decision (held file) device address))
+decided_by status.Ok told file device address old new is r long t = read_as status.Ok told file device address old new r t
+decided_by status.BadWords told file device address old new is r long t = absurd is
+decided_by (status.BadConfig fault) told file device address old new is r long t = read_as (status.BadConfig fault) told file device address old new r t
+decided_by status.ReadFault told file device address old new is r long t = tt
+decided_by status.WriteFault told file device address old new is r long t = absurd is
+decided_by (status.BadCapture end place fault) told file device address old new is r long t = absurd is
+decided_by status.NoMemory told file device address old new is r long t = tt
+decided_by (status.TooLong word) told file device address old new is r long t = (is, is_long (held file) device address (long word refl t))
+decided_by status.NoDevice told file device address old new is r long t = read_as status.NoDevice told file device address old new r t
+
+-- A status that no failed read explains is decided, or that of memory.
+pub complete_map : (s : Status) (P R : Type 0) → (s ≡ status.ReadFault → R) → OnDecided s P → (R → ⊥) → P ⊎ (s ≡ status.NoMemory)
+complete_map status.Ok P R fault p still = inl p
+complete_map status.BadWords P R fault p still = inl p
+complete_map (status.BadConfig f) P R fault p still = inl p
+complete_map status.ReadFault P R fault p still = absurd (still (fault refl))
+complete_map status.WriteFault P R fault p still = inl p
+complete_map (status.BadCapture end place f) P R fault p still = inl p
+complete_map status.NoMemory P R fault p still = inr refl
+complete_map (status.TooLong word) P R fault p still = inl p
+complete_map status.NoDevice P R fault p still = inl p

@@ -1,0 +1,9 @@
+use Rattle.std.proofs.Common.{◌+◌, ◌≤◌, ◌<◌, length, arith}
+use Rattle.siit_top.specs.PlainCapture.{little32}
+use Rattle.siit_top.proofs.Records.{IsFirstRecord-read}
+use Rattle.siit_top.proofs.capture.first_record.Goals as goal
+
+pub returns : goal.returns
+returns c =
+    let rest = c.args.rest.now in
+    IsFirstRecord-read rest _ _ c.get32-captured.result (omega arith) (omega (arith, c.get32-microseconds.ensures)) (omega (arith, c.get32-captured.ensures)) (omega (arith, c.get32-captured.ensures)) c.get32.ensures c.get32-microseconds.ensures c.get32-captured.ensures c.split_at.ensures.front c.split_at.ensures.back

@@ -1,0 +1,26 @@
+-- How many records were read, written and dropped, and how far a file was written.
+use Rattle.std.specs.Prelude.{◌≡◌, ◌⊎◌, ℕ, ◌+◌, ◌≤◌, List, length, take, Bool, not, if◌then◌else◌, count_by, Option, Some}
+use Rattle.siit_top.specs.PlainCapture.{Captured}
+use Rattle.siit_top.specs.Wkp.{is_carried}
+use Rattle.siit_top.specs.declared.carry.Counts.{Counts}
+
+abbrev pub is_dropped : Captured → Bool
+is_dropped captured = not (is_carried captured)
+
+-- the counts of these records
+pub record IsCount (counts : Counts) (records : List Captured) : Type 0 where
+  pub all : counts.read ≡ length records
+  pub carried : counts.written ≡ count_by is_carried records
+  pub dropped : counts.drops ≡ count_by is_dropped records
+
+-- the counts with one record more
+abbrev pub counted : Counts → Bool → Counts
+counted counts carried = record {
+  read = counts.read + 1;
+  written = counts.written + (if carried then 1 else 0);
+  drops = counts.drops + (if carried then 0 else 1);
+}
+
+-- A file that was to hold a text is as it was, or holds a part of the text from its start.
+abbrev pub IsPartOf : Option (List ℕ) → Option (List ℕ) → List ℕ → Type 0
+IsPartOf old new text = (new ≡ old) ⊎ ((n : ℕ) × (n ≤ length text) × (new ≡ Some (take n text)))

@@ -1,0 +1,15 @@
+pub mod Words
+pub mod PlainCapture
+pub mod WrittenCapture
+pub mod Wkp
+pub mod ConfigTexts
+pub mod Texts
+pub mod Read
+pub mod MapLine
+pub mod Turns
+pub mod Plain
+pub mod Counted
+pub mod Run
+pub mod Examples
+pub mod MapExamples
+pub mod MapRun

@@ -1,0 +1,51 @@
+-- The exit statuses and the lines of the program.
+use Rattle.std.specs.Prelude.{ℕ, List, [], ◌∷◌, ◌++◌, codes}
+use Rattle.std.specs.Fmt.{decimal}
+use Rattle.siit_top.specs.declared.status.End.{End}
+use Rattle.siit_top.specs.declared.status.End.TheVariants.{Left, Right}
+use Rattle.siit_top.specs.declared.status.CaptureFault.{CaptureFault}
+use Rattle.siit_top.specs.declared.status.CaptureFault.TheVariants.{NotBuilt}
+use Rattle.siit_top.specs.declared.status.Status.{Status}
+use Rattle.siit_top.specs.declared.status.Status.TheVariants.{Ok, BadWords, BadConfig, ReadFault, WriteFault, BadCapture, NoMemory, TooLong, NoDevice}
+use Rattle.siit_config.specs.declared.fault.ConfigFault.{ConfigFault}
+use Rattle.siit_top.specs.ConfigTexts.{config_text}
+
+abbrev pub end_name : End → List ℕ
+end_name Left = codes "left"
+end_name Right = codes "right"
+
+abbrev pub fault_name : CaptureFault → List ℕ
+fault_name NotBuilt = codes "NotBuilt"
+
+abbrev pub status_code : Status → ℕ
+status_code Ok = 0
+status_code BadWords = 2
+status_code (BadConfig fault) = 3
+status_code ReadFault = 4
+status_code WriteFault = 5
+status_code (BadCapture end place fault) = 6
+status_code NoMemory = 7
+status_code (TooLong word) = 8
+status_code NoDevice = 10
+
+abbrev pub bad_capture_text : End → (place : ℕ) → CaptureFault → List ℕ
+bad_capture_text end place fault =
+    codes "siit: bad capture: " ++ end_name end ++ codes " at " ++ decimal place ++ codes ": " ++ fault_name fault ++ 10 ∷ []
+
+abbrev pub too_long_text : (word : ℕ) → List ℕ
+too_long_text word = codes "siit: too long: word " ++ decimal word ++ 10 ∷ []
+
+abbrev pub bad_config_text : ConfigFault → List ℕ
+bad_config_text fault = codes "siit: bad config: " ++ config_text fault ++ 10 ∷ []
+
+-- the line of a status, and no bytes for Ok
+abbrev pub status_text : Status → List ℕ
+status_text Ok = []
+status_text BadWords = codes "siit: bad words\n"
+status_text (BadConfig fault) = bad_config_text fault
+status_text ReadFault = codes "siit: read fault\n"
+status_text WriteFault = codes "siit: write fault\n"
+status_text (BadCapture end place fault) = bad_capture_text end place fault
+status_text NoMemory = codes "siit: no memory\n"
+status_text (TooLong word) = too_long_text word
+status_text NoDevice = codes "siit: no device\n"

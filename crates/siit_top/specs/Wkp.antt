@@ -1,0 +1,68 @@
+-- What `wkp IN OUT` writes: each plain packet of IN, translated under the well-known prefix.
+use Rattle.std.specs.Prelude.{ℕ, ◌+◌, ◌*◌, ◌^◌, List, [], ◌∷◌, ◌++◌, length, Bool, not, ◌&&◌, ◌||◌, ◌==◌, nat_lt, nat_le, if◌then◌else◌, Option, Some, None, is_some, option_and_then, count_by, codes}
+use Rattle.std.specs.List.{flat_map}
+use Rattle.std.specs.Option.{option_map_or}
+use Rattle.std.specs.Fmt.{decimal}
+use Rattle.siit_addr.specs.Addresses.{is_non_global_number}
+use Rattle.siit_model.specs.Bytes.{field16}
+use Rattle.siit_model.specs.Ipv4.{Ipv4Packet, ipv4_of, is_whole4, total_length4}
+use Rattle.siit_model.specs.Ipv6.{ipv6_bytes}
+use Rattle.siit_v4to6.specs.To6.{translated_to_6}
+use Rattle.siit_rfc6052.specs.Embedding.{embedded}
+use Rattle.siit_top.specs.PlainCapture.{Captured}
+use Rattle.siit_top.specs.WrittenCapture.{output_head, output_record}
+
+-- an upper part with a whole TCP header, or a whole UDP header that has a checksum
+abbrev pub has_plain_upper : Ipv4Packet → Bool
+has_plain_upper packet =
+    ((packet.protocol == 6) && nat_le 20 (length packet.payload))
+    || ((packet.protocol == 17) && nat_le 8 (length packet.payload) && nat_lt 0 (field16 packet.payload 6))
+
+-- What is translated so far: a whole TCP or UDP packet without options between global addresses, with TTL left, that fits a
+-- link of 1,280 bytes on the other side.
+abbrev pub is_plain : Ipv4Packet → Bool
+is_plain packet =
+    is_whole4 packet
+    && (length packet.options == 0)
+    && nat_le 2 packet.ttl
+    && nat_le (total_length4 packet) 1260
+    && has_plain_upper packet
+    && not (is_non_global_number packet.source)
+    && not (is_non_global_number packet.destination)
+
+-- the well-known prefix 64:ff9b::/96, and an address under it (RFC 6052 section 2.1)
+abbrev pub well_known : ℕ
+well_known = 0x0064ff9b * 2 ^ 96
+
+abbrev pub under_well_known : ℕ → ℕ
+under_well_known address = embedded 96 well_known address
+
+-- the translated packet of some bytes, or none where they are no plain packet
+abbrev pub image : List ℕ → Option (List ℕ)
+image bytes =
+    option_and_then
+    (λ packet. if is_plain packet
+    then Some (ipv6_bytes (translated_to_6 (under_well_known packet.source) (under_well_known packet.destination) packet.tos packet))
+    else None)
+    (ipv4_of bytes)
+
+-- what comes of one captured packet
+abbrev pub written : Captured → List ℕ
+written captured = option_map_or (output_record captured.seconds (captured.microseconds * 1000)) (image captured.bytes) []
+
+abbrev pub is_carried : Captured → Bool
+is_carried captured = is_some (image captured.bytes)
+
+-- the whole of OUT
+abbrev pub wkp_capture : List Captured → List ℕ
+wkp_capture records = output_head ++ flat_map written records
+
+-- The end line: records read from the left and from the right, packets written to the left and to the right, and drops.
+abbrev pub end_line : (read_left read_right written_left written_right drops : ℕ) → List ℕ
+end_line read_left read_right written_left written_right drops =
+    codes "end " ++ decimal read_left ++ codes " " ++ decimal read_right ++ codes " " ++ decimal written_left
+    ++ codes " " ++ decimal written_right ++ codes " " ++ decimal drops ++ 10 ∷ []
+
+abbrev pub wkp_line : List Captured → List ℕ
+wkp_line records =
+    end_line (length records) 0 0 (count_by is_carried records) (count_by (λ captured. not (is_carried captured)) records)

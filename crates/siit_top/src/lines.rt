@@ -1,0 +1,97 @@
+// The lines that the program prints.
+ghost use Rattle.std.specs.Prelude.{◌≡◌, ◌++◌, IfOk, OnOk, codes, string_bytes};
+ghost use Rattle.std.specs.Fmt.{decimal};
+ghost use Rattle.siit_top.specs.Wkp.{end_line};
+ghost use Rattle.siit_top.specs.Texts.{bad_capture_text, bad_config_text, status_text, too_long_text};
+
+use crate::config_lines::config_text;
+use crate::status::{CaptureFault, End, Status};
+use siit_config::ConfigFault;
+use siit_word::NoMemory;
+use std::alloc::{AllocError, Global};
+
+/// The line that is printed for a status, with its line feed. For `Ok`, which prints a command's own text, no bytes.
+pub fn status_line(alloc: Global, status: &Status) -> Result<Vec<u8>, NoMemory>
+    ensures { IfOk result (λ line. line.items ≡ status_text status.now) }
+{
+    match line_of(alloc, status) {
+        Ok(line) => Ok(line.into_bytes()),
+        Err(AllocError) => Err(NoMemory),
+    }
+}
+
+fn line_of(alloc: Global, status: &Status) -> Result<String, AllocError>
+    ensures { IfOk result (λ line. string_bytes line ≡ status_text status.now) }
+{
+    match *status {
+        Status::Ok => Ok(String::new(alloc)),
+        Status::BadWords => String::from_str(alloc, "siit: bad words\n"),
+        Status::BadConfig(fault) => bad_config_line(alloc, &fault),
+        Status::ReadFault => String::from_str(alloc, "siit: read fault\n"),
+        Status::WriteFault => String::from_str(alloc, "siit: write fault\n"),
+        Status::BadCapture { end, place, fault } => bad_capture_line(alloc, end, place, fault),
+        Status::NoMemory => String::from_str(alloc, "siit: no memory\n"),
+        Status::TooLong { word } => too_long_line(alloc, word),
+        Status::NoDevice => String::from_str(alloc, "siit: no device\n"),
+    }
+}
+
+#[tactic(auto, using(std::proofs::Common::append_assoc))]
+fn bad_capture_line(
+    alloc: Global,
+    end: End,
+    place: u64,
+    fault: CaptureFault,
+) -> Result<String, AllocError>
+    ensures { IfOk result (λ line. string_bytes line ≡ bad_capture_text end place fault) }
+{
+    let end = end.name();
+    let mut line = format!(in alloc; "siit: bad capture: {end} at {place}: ")?;
+    line.push_str(fault.name())?;
+    line.push('\n')?;
+    Ok(line)
+}
+
+fn bad_config_line(alloc: Global, fault: &ConfigFault) -> Result<String, AllocError>
+    ensures { IfOk result (λ line. string_bytes line ≡ bad_config_text fault.now) }
+{
+    let text = config_text(alloc, fault)?;
+    let mut line = String::from_str(alloc, "siit: bad config: ")?;
+    line.push_str(text.as_str())?;
+    line.push('\n')?;
+    Ok(line)
+}
+
+#[tactic(auto, using(std::proofs::Common::append_assoc))]
+fn too_long_line(alloc: Global, word: u8) -> Result<String, AllocError>
+    ensures { IfOk result (λ line. string_bytes line ≡ too_long_text word) }
+{
+    format!(in alloc; "siit: too long: word {word}\n")
+}
+
+/// The line at the end of a run: records read from the left and from the right, packets written to the left and to the
+/// right, and drops.
+pub(crate) fn end_line(
+    alloc: Global,
+    read: (u64, u64),
+    written: (u64, u64),
+    drops: u64,
+) -> Result<String, AllocError>
+    ensures { IfOk result (λ line. string_bytes line ≡ end_line read.0 read.1 written.0 written.1 drops) }
+{
+    let mut line = String::from_str(alloc, "end")?;
+    push_count(alloc, &mut line, read.0)?;
+    push_count(alloc, &mut line, read.1)?;
+    push_count(alloc, &mut line, written.0)?;
+    push_count(alloc, &mut line, written.1)?;
+    push_count(alloc, &mut line, drops)?;
+    line.push_str("\n")?;
+    Ok(line)
+}
+
+fn push_count(alloc: Global, line: &mut String, count: u64) -> Result<(), AllocError>
+    ensures { OnOk result (string_bytes line.new ≡ string_bytes line.old ++ (codes " " ++ decimal count)) }
+{
+    line.push_str(&format!(in alloc; " {count}")?)?;
+    Ok(())
+}
