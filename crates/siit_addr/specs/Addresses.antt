@@ -1,9 +1,13 @@
 -- Addresses as numbers, prefixes by their leading bits, and the ranges that are not global.
-use Rattle.std.specs.Prelude.{ℕ, ◌+◌, ◌*◌, ◌-◌, ◌/◌, ◌%◌, ◌^◌, Bool, ◌||◌, ◌==◌}
+use Rattle.std.specs.Prelude.{ℕ, ◌+◌, ◌*◌, ◌-◌, ◌/◌, ◌%◌, ◌^◌, Bool, ◌||◌, ◌==◌, min}
 
 -- two addresses of so many bits agree in their first len bits
 abbrev pub agree : (width len : ℕ) → ℕ → ℕ → Bool
 agree width len a b = (a / 2 ^ (width - len)) == (b / 2 ^ (width - len))
+
+-- some address begins with the bits of both prefixes, since they agree as far as the shorter one goes
+abbrev pub overlap : (width len1 a1 len2 a2 : ℕ) → Bool
+overlap width len1 a1 len2 a2 = agree width (min len1 len2) a1 a2
 
 -- no bit of an address past its first len bits is set
 abbrev pub is_clear_behind : (width len : ℕ) → ℕ → Bool

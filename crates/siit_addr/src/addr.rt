@@ -1,5 +1,5 @@
 ghost use Rattle.std.specs.Prelude.{◌≡◌, ◌≤◌, ◌-◌, ◌/◌, ◌^◌};
-ghost use Rattle.siit_addr.specs.Addresses.{agree, is_clear_behind, is_non_global_number};
+ghost use Rattle.siit_addr.specs.Addresses.{agree, is_clear_behind, is_non_global_number, overlap};
 
 /// An IPv4 address, its first octet the highest byte.
 #[derive(Clone, Copy, Debug, PartialEq, Eq, PartialOrd, Ord, Hash)]
@@ -48,6 +48,17 @@ impl Prefix4 {
         u64::from(a.0) >> behind == u64::from(self.addr.0) >> behind
     }
 
+    /// Whether some address begins with the bits of both prefixes. Bits past a length count for nothing.
+    pub fn overlaps(&self, other: &Prefix4) -> bool
+        ensures { result ≡ overlap 32 self.now.len self.now.addr.0 other.now.len other.now.addr.0 }
+    {
+        if self.len <= other.len {
+            self.holds(other.addr)
+        } else {
+            other.holds(self.addr)
+        }
+    }
+
     /// Whether no bit past the length is set.
     pub fn is_clean(&self) -> bool
         ensures { result ≡ is_clear_behind 32 self.now.len self.now.addr.0 }
@@ -63,6 +74,17 @@ impl Prefix6 {
         ensures { result ≡ agree 128 self.now.len a.0 self.now.addr.0 }
     {
         first_bits(a.0, self.len) == first_bits(self.addr.0, self.len)
+    }
+
+    /// Whether some address begins with the bits of both prefixes. Bits past a length count for nothing.
+    pub fn overlaps(&self, other: &Prefix6) -> bool
+        ensures { result ≡ overlap 128 self.now.len self.now.addr.0 other.now.len other.now.addr.0 }
+    {
+        if self.len <= other.len {
+            self.holds(other.addr)
+        } else {
+            other.holds(self.addr)
+        }
     }
 
     /// Whether no bit past the length is set.

@@ -5,7 +5,8 @@ use Rattle.std.proofs.lemmas.Option.{slice_get-get_or}
 use Rattle.siit_addr.specs.declared.addr.Prefix4.{Prefix4}
 use Rattle.siit_addr.specs.declared.addr.Prefix6.{Prefix6}
 use Rattle.siit_eamt.specs.declared.entry.Eam.{Eam}
-use Rattle.siit_eamt.specs.Disjoint.{overlap, IsDisjoint}
+use Rattle.siit_addr.specs.Addresses.{overlap}
+use Rattle.siit_eamt.specs.Disjoint.{IsDisjoint}
 use Rattle.siit_eamt.specs.Table.{IsTable}
 use Rattle.siit_eamt.proofs.Neighbours.{pairs_from_neighbours, neighbours_from_entries}
 use Rattle.siit_eamt.proofs.Ranges.{IsGoodEntry, IsGoodEntry-from_test}

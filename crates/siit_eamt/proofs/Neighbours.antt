@@ -11,7 +11,7 @@ use Rattle.std.proofs.lemmas.List.Sorted.{IsPermutation-keeps, IsPermutation-sym
 use Rattle.std.proofs.lemmas.List.Elements.{All-map}
 use Rattle.std.proofs.lemmas.Nat.{pow_pos}
 use Rattle.std.proofs.Math.Nat.{mul-le-mul_left}
-use Rattle.siit_eamt.specs.Disjoint.{overlap}
+use Rattle.siit_addr.specs.Addresses.{overlap}
 use Rattle.siit_eamt.proofs.Powers.{multiples_apart, multiple_below}
 
 -- numbers with different quotients by m lie m apart, from a multiple of m on

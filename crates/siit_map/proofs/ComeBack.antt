@@ -7,12 +7,12 @@ use Rattle.std.proofs.lemmas.Bool.Decides.{nat_tests}
 use Rattle.std.proofs.lemmas.Nat.{shr-shr, shl-shr}
 use Rattle.std.proofs.lemmas.Option.{slice_get_within, get_or_from_slice_get, same_Some, cond_some}
 use Rattle.std.proofs.Math.Nat.{add-sub_cancel_left}
-use Rattle.siit_addr.specs.Addresses.{agree}
+use Rattle.siit_addr.specs.Addresses.{agree, overlap}
 use Rattle.siit_addr.specs.declared.addr.Prefix6.{Prefix6}
 use Rattle.siit_rfc6052.specs.Embedding.{ExtractsEmbedded, octet_places, gathered}
 use Rattle.siit_eamt.specs.declared.entry.Eam.{Eam as Entry}
 use Rattle.siit_eamt.specs.Entries.{best4, best6, up, down, holds4, holds6, length6, is_good, weight}
-use Rattle.siit_eamt.specs.Disjoint.{overlap, overlap6, IsDisjoint}
+use Rattle.siit_eamt.specs.Disjoint.{overlap6, IsDisjoint}
 use Rattle.siit_eamt.proofs.Longest.{longest_is}
 use Rattle.siit_eamt.proofs.Powers.{agrees_above}
 use Rattle.siit_eamt.proofs.Ranges.{IsSuffix4-from_held, IsGoodEntry-from_test}

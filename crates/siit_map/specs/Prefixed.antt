@@ -1,10 +1,10 @@
 -- Addresses under a prefix (RFC 6052), and at a customer's device (RFC 6877). What is refused is this project's own choice;
 -- RFC 6052 section 3.1 forbids addresses that aren't global under the well-known prefix.
-use Rattle.std.specs.Prelude.{ℕ, ◌*◌, ◌^◌, Bool, ◌&&◌, ◌==◌, if◌then◌else◌, Option, Some, None, Result, Ok, Err, is_some}
+use Rattle.std.specs.Prelude.{ℕ, Bool, ◌&&◌, if◌then◌else◌, Option, Some, None, Result, Ok, Err, is_some}
 use Rattle.siit_addr.specs.Addresses.{agree, dotted, is_non_global_number}
 use Rattle.siit_addr.specs.declared.addr.Prefix4.{Prefix4}
 use Rattle.siit_addr.specs.declared.addr.Prefix6.{Prefix6}
-use Rattle.siit_rfc6052.specs.Embedding.{embedded, extracted}
+use Rattle.siit_rfc6052.specs.Embedding.{embedded, extracted, is_well_known}
 use Rattle.siit_map.specs.declared.mapping.Means.{Means}
 use Rattle.siit_map.specs.declared.mapping.Means.TheVariants.{Prefix, Local}
 use Rattle.siit_map.specs.declared.mapping.MapRefusal.{MapRefusal}
@@ -13,10 +13,6 @@ use Rattle.siit_map.specs.declared.mapping.MapRefusal.TheVariants.{NoMapping, Wk
 -- 224.0.0.0/4 (RFC 5771)
 abbrev pub is_multicast : ℕ → Bool
 is_multicast a = agree 32 4 a (dotted 224 0 0 0)
-
--- 64:ff9b::/96 (RFC 6052 section 2.1)
-abbrev pub is_well_known : Prefix6 → Bool
-is_well_known prefix = (prefix.len == 96) && (prefix.addr.0 == 0x64ff9b * 2 ^ 96)
 
 abbrev pub embedded_in : Prefix6 → ℕ → ℕ
 embedded_in prefix a = embedded prefix.len prefix.addr.0 a

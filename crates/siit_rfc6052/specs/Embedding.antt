@@ -1,6 +1,7 @@
 -- An IPv4 address inside an IPv6 address (RFC 6052 section 2.2). Addresses are numbers, their first octet the highest.
 use Rattle.std.specs.Prelude.{◌≡◌, ℕ, ◌+◌, ◌*◌, ◌-◌, ◌/◌, ◌%◌, ◌^◌, ◌<◌, List, [], ◌∷◌, Bool, ◌==◌, ◌||◌, ◌&&◌, if◌then◌else◌, Option, Some, None, IsTrue}
 use Rattle.siit_addr.specs.Addresses.{agree, is_clear_behind}
+use Rattle.siit_addr.specs.declared.addr.Prefix6.{Prefix6}
 
 -- the lengths that a prefix may have
 abbrev pub is_embedding_length : ℕ → Bool
@@ -29,6 +30,13 @@ byte_of x place = x / 256 ^ (15 - place) % 256
 abbrev pub is_embedding_prefix : (len prefix : ℕ) → Bool
 is_embedding_prefix len prefix =
     is_embedding_length len && is_clear_behind 128 len prefix && (byte_of prefix 8 == 0)
+
+-- the address of the well-known prefix 64:ff9b::/96 (RFC 6052 section 2.1)
+abbrev pub well_known : ℕ
+well_known = 0x64ff9b * 2 ^ 96
+
+abbrev pub is_well_known : Prefix6 → Bool
+is_well_known prefix = (prefix.len == 96) && (prefix.addr.0 == well_known)
 
 -- the octets of an IPv4 address from octet k on at their places, all other bytes zero
 abbrev pub placed : List ℕ → (k a : ℕ) → ℕ

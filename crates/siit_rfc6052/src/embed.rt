@@ -1,6 +1,6 @@
 ghost use Rattle.std.specs.Prelude.{◌≡◌, ◌&&◌, ◌==◌, ◌*◌, ◌^◌, IfOk, IsTrue, option_map};
 ghost use Rattle.std.specs.Result.{result_err};
-ghost use Rattle.siit_rfc6052.specs.Embedding.{embedded, extracted, is_embedding_prefix};
+ghost use Rattle.siit_rfc6052.specs.Embedding.{embedded, extracted, is_embedding_prefix, is_well_known, well_known};
 
 use siit_addr::{Addr4, Addr6, Prefix6};
 use std::marker::Model;
@@ -19,6 +19,9 @@ pub enum EmbedFault {
     #[error("bits 64 to 71 are not zero")]
     NonZeroU,
 }
+
+/// The address of the well-known prefix 64:ff9b::/96 (RFC 6052 section 2.1).
+const WELL_KNOWN: u128 = 0x64ff9b << 96;
 
 /// A prefix under which IPv4 addresses are embedded.
 #[derive(Clone, Copy, Debug)]
@@ -60,6 +63,19 @@ impl Embed {
         Ok(Embed { prefix })
     }
 
+    /// The well-known prefix 64:ff9b::/96 (RFC 6052 section 2.1).
+    pub fn well_known() -> Embed
+        ensures length { result.len ≡ 96 }
+        ensures address { result.addr.0 ≡ well_known }
+    {
+        Embed {
+            prefix: Prefix6 {
+                addr: Addr6(WELL_KNOWN),
+                len: 96,
+            },
+        }
+    }
+
     /// The prefix.
     pub fn prefix(&self) -> Prefix6
         ensures value { result ≡ self.now }
@@ -70,9 +86,9 @@ impl Embed {
 
     /// Whether it is the well-known prefix 64:ff9b::/96 (RFC 6052 section 2.1).
     pub fn is_well_known(&self) -> bool
-        ensures { result ≡ ((self.now.len == 96) && (self.now.addr.0 == 0x64ff9b * 2 ^ 96)) }
+        ensures { result ≡ is_well_known self.now }
     {
-        self.prefix.len == 96 && self.prefix.addr.0 == 0x64ff9b << 96
+        self.prefix.len == 96 && self.prefix.addr.0 == WELL_KNOWN
     }
 
     /// The IPv6 address that holds this IPv4 address.

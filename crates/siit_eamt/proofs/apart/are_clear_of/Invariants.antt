@@ -1,5 +1,5 @@
 use Rattle.std.proofs.Common.{◌≡◌, false, All, take}
-use Rattle.siit_eamt.specs.Disjoint.{overlap}
+use Rattle.siit_addr.specs.Addresses.{overlap}
 use Rattle.siit_eamt.proofs.apart.are_clear_of.Given as goal
 
 abbrev pub invariant-loop-entry : goal.invariant-loop-entry
