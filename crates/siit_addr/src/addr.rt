@@ -40,7 +40,7 @@ pub struct Prefix6 {
 }
 
 impl Prefix4 {
-    /// Whether the address begins with the prefix's bits.
+    /// Whether the address begins with the prefix's bits, of which there are as many as its length says.
     pub fn holds(&self, a: Addr4) -> bool
         ensures { result ≡ agree 32 self.now.len a.0 self.now.addr.0 }
     {
@@ -59,7 +59,7 @@ impl Prefix4 {
         }
     }
 
-    /// Whether no bit past the length is set.
+    /// Whether no bit of the prefix's address past its length is set.
     pub fn is_clean(&self) -> bool
         ensures { result ≡ is_clear_behind 32 self.now.len self.now.addr.0 }
     {
@@ -69,7 +69,7 @@ impl Prefix4 {
 }
 
 impl Prefix6 {
-    /// Whether the address begins with the prefix's bits.
+    /// Whether the address begins with the prefix's bits, of which there are as many as its length says.
     pub fn holds(&self, a: Addr6) -> bool
         ensures { result ≡ agree 128 self.now.len a.0 self.now.addr.0 }
     {
@@ -87,7 +87,7 @@ impl Prefix6 {
         }
     }
 
-    /// Whether no bit past the length is set.
+    /// Whether no bit of the prefix's address past its length is set.
     pub fn is_clean(&self) -> bool
         ensures { result ≡ is_clear_behind 128 self.now.len self.now.addr.0 }
     {
@@ -107,7 +107,11 @@ fn first_bits(bits: u128, len: u8) -> u128
     bits.checked_shr(u32::from(128 - len)).unwrap_or(0)
 }
 
-/// Whether the address lies in one of the ranges that are not global. The list is this project's own.
+/// Whether the address lies in one of the ranges that are not global: 0.0.0.0/8 (this network), 10.0.0.0/8, 172.16.0.0/12 and
+/// 192.168.0.0/16 (private, RFC 1918), 127.0.0.0/8 (loopback), 169.254.0.0/16 (link-local, RFC 3927), 192.0.0.0/24 (protocol
+/// assignments, RFC 6890), 192.0.2.0/24, 198.51.100.0/24 and 203.0.113.0/24 (documentation, RFC 5737), 198.18.0.0/15
+/// (benchmarking, RFC 2544), 224.0.0.0/4 (multicast, RFC 5771) and 240.0.0.0/4 (reserved, RFC 1112 section 4). The list is
+/// this project's own: the shared range 100.64.0.0/10 (RFC 6598) counts as global.
 pub fn is_non_global(a: Addr4) -> bool
     ensures { result ≡ is_non_global_number a.0 }
 {

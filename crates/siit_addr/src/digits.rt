@@ -1,5 +1,5 @@
 //! Numbers in decimal and hexadecimal digits.
-ghost use Rattle.std.specs.Prelude.{◌≡◌, ◌<◌, ◌≤◌, IfSome};
+ghost use Rattle.std.specs.Prelude.{◌≡◌, ◌<◌, IfSome};
 ghost use Rattle.siit_addr.specs.Texts.{decimal_digit_of, hex_digit_of, decimal_of, group_of, at_most};
 
 fn decimal_digit(byte: u8) -> Option<u8>

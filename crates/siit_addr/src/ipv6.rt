@@ -1,6 +1,6 @@
 //! IPv6 texts.
-ghost use Rattle.std.specs.Prelude.{◌≡◌, ◌+◌, ◌*◌, ◌^◌, ◌<◌, ◌≤◌, None, Some, length, option_map, IfSome, MatchOption};
-ghost use Rattle.siit_addr.specs.Texts.{groups_of, groups_of_parts, last_groups_of, parts_at, colon, with_gap, ipv6_of_groups, ipv6_of_text};
+ghost use Rattle.std.specs.Prelude.{◌≡◌, ◌+◌, ◌*◌, ◌<◌, None, Some, length, option_map, IfSome, MatchOption};
+ghost use Rattle.siit_addr.specs.Texts.{groups_of, last_groups_of, with_gap, ipv6_of_groups, ipv6_of_text};
 
 use crate::addr::Addr6;
 use crate::digits::read_group;

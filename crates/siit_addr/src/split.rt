@@ -1,5 +1,5 @@
 //! Texts in parts.
-ghost use Rattle.std.specs.Prelude.{◌≡◌, ◌≢◌, ◌<◌, ◌≤◌, [], ◌∷◌, None, Some, length, MatchOption, IfSome};
+ghost use Rattle.std.specs.Prelude.{◌≡◌, ◌≢◌, ◌<◌, [], ◌∷◌, None, Some, length, MatchOption, IfSome};
 ghost use Rattle.siit_addr.specs.Texts.{parts_at, around_gap, point, slash};
 
 /// The text before the first separator and the text behind it.

@@ -42,8 +42,9 @@ type Placed = (u32, Eam);
 const MOST_ENTRIES: usize = 65_536;
 
 impl Eamt {
-    /// The table of these entries, or the fault of the first entry at fault; an entry's faults come in the order of
-    /// [`EamFault`].
+    /// The table of these entries (RFC 7757 section 3.1). Above 65,536 of them the fault is `TooMany`; else it is that of the
+    /// first entry at fault, whose faults come in the order of [`EamFault`], or `NoMemory` before any of these. Prefixes may lie
+    /// inside one another; that none may stand twice is this project's own rule.
     pub fn build(alloc: Global, entries: &[Eam]) -> Result<Eamt, EamFault>
         ensures accepted { IfOk result (λ table. table ≡ entries.now) }
         ensures faultless { OnOk result (table_fault entries.now ≡ None) }
@@ -72,7 +73,8 @@ impl Eamt {
         &self.entries
     }
 
-    /// The entry of greatest IPv4 length among all that hold the address, and the IPv6 address (RFC 7757 section 3.3.1).
+    /// The entry of greatest IPv4 length among all that hold the address, and the IPv6 address (RFC 7757 section 3.3.1). `None`
+    /// where no entry holds it. Each entry that is read counts as one step.
     pub fn find4<L: Ledger>(&self, a: Addr4, steps: &mut Steps<L>) -> Option<Hit6>
         ensures found { option_map (λ hit. (hit.entry, hit.address.0)) result ≡ forth self.now a.0 }
         ensures cost { steps.new ≤ steps.old + length self.now }
@@ -92,7 +94,8 @@ impl Eamt {
         })
     }
 
-    /// The entry of greatest IPv6 length among all that hold the address, and the IPv4 address (RFC 7757 section 3.3.2).
+    /// The entry of greatest IPv6 length among all that hold the address, and the IPv4 address (RFC 7757 section 3.3.2). `None`
+    /// where no entry holds it. Each entry that is read counts as one step.
     pub fn find6<L: Ledger>(&self, x: Addr6, steps: &mut Steps<L>) -> Option<Hit4>
         ensures found { option_map (λ hit. (hit.entry, hit.address.0)) result ≡ back self.now x.0 }
         ensures cost { steps.new ≤ steps.old + length self.now }
@@ -112,7 +115,7 @@ impl Eamt {
         })
     }
 
-    /// Whether no two IPv4 prefixes overlap, no two IPv6 prefixes overlap, and none overlaps `prefix`.
+    /// Whether no two IPv4 prefixes overlap, no two IPv6 prefixes overlap, and no IPv6 prefix overlaps `prefix`.
     pub fn is_disjoint(&self, prefix: Prefix6) -> bool
         ensures { IsTrue result ↔ IsDisjoint self.now prefix }
     {

@@ -1,4 +1,4 @@
-ghost use Rattle.std.specs.Prelude.{◌≡◌, ◌+◌, ◌≤◌, Err, IfErr, IfOk, IsTrue, None, Ok, Some, length, option_map};
+ghost use Rattle.std.specs.Prelude.{◌≡◌, ◌+◌, ◌≤◌, Err, IfErr, IfOk, IsTrue, None, Ok, length, option_map};
 ghost use Rattle.siit_eamt.specs.Entries.{forth};
 ghost use Rattle.siit_eamt.specs.Faults.{table_fault};
 ghost use Rattle.siit_rfc6052.specs.Embedding.{is_embedding_prefix};
@@ -14,7 +14,7 @@ use std::sync::ledger::Ledger;
 /// How an address got its address of the other family.
 #[derive(Clone, Copy, Debug, PartialEq, Eq)]
 pub enum Means {
-    /// By the entry at this place.
+    /// By the table's entry at this place, from 0.
     Eam(u32),
     /// Under the translation prefix.
     Prefix,
@@ -22,14 +22,17 @@ pub enum Means {
     Local,
 }
 
-/// Why an address has none.
+/// Why an address has no address of the other family.
 #[derive(Clone, Copy, Debug, PartialEq, Eq)]
 pub enum MapRefusal {
-    /// No entry and no prefix holds it, or the IPv4 address is multicast.
+    /// Neither an entry nor a prefix holds it, or only the translation prefix is left and the IPv4 address is multicast
+    /// (224.0.0.0/4, RFC 5771).
     NoMapping,
-    /// It would stand under the well-known prefix, and the IPv4 address isn't global.
+    /// Only the translation prefix is left, it is the well-known one, and the IPv4 address isn't global (RFC 6052 section 3.1;
+    /// which ones aren't: [`is_non_global`]).
     WkpNonGlobal,
-    /// It mixes a customer's local network with another prefix.
+    /// An IPv6 address under a customer's local prefix with an IPv4 address that isn't local, or under the provider's prefix with
+    /// one that is.
     LocalMismatch,
 }
 
@@ -62,7 +65,7 @@ impl Model for Mapping {
 }
 
 impl Mapping {
-    /// The mapping of a table (RFC 7757), and of a prefix where it has no entry (RFC 6052).
+    /// The mapping of a table (RFC 7757), and of a translation prefix where the table has no entry (RFC 6052).
     pub fn table(eamt: Eamt, prefix: Embed) -> Mapping
         ensures { result ≡ table eamt prefix }
     {
@@ -85,7 +88,8 @@ impl Mapping {
         }
     }
 
-    /// The IPv6 address of an IPv4 address, or why it has none.
+    /// The IPv6 address of an IPv4 address, or why it has none (RFC 7757 section 3.3.1, RFC 6052 section 2.2). Each entry that is
+    /// read counts as one step.
     pub fn to6<L: Ledger>(
         &self,
         a: Addr4,
@@ -114,7 +118,8 @@ impl Mapping {
         }
     }
 
-    /// The IPv4 address of an IPv6 address, or why it has none.
+    /// The IPv4 address of an IPv6 address, or why it has none (RFC 7757 section 3.3.2, RFC 6052 section 2.2). Each entry that is
+    /// read counts as one step.
     pub fn to4<L: Ledger>(
         &self,
         x: Addr6,
@@ -138,7 +143,8 @@ impl Mapping {
         }
     }
 
-    /// The entry of an IPv4 address, and the address that it gives. A customer has no entries.
+    /// The entry of an IPv4 address, and the address that it gives, or `None` where no entry holds it. A customer has no entries.
+    /// Each entry that is read counts as one step.
     pub fn eam_of<L: Ledger>(&self, a: Addr4, steps: &mut Steps<L>) -> Option<Hit6>
         ensures found { option_map (λ hit. (hit.entry, hit.address.0)) result ≡ forth (entries_of self.now) a.0 }
         ensures cost { steps.new ≤ steps.old + length (entries_of self.now) }
@@ -150,7 +156,7 @@ impl Mapping {
         }
     }
 
-    /// The form of an IPv4 address under the translation prefix, the entries not being asked. None where the address is
+    /// The form of an IPv4 address under the translation prefix, the entries not being asked. `None` where the address is
     /// multicast, or isn't global and the prefix is the well-known one.
     pub fn prefix_of(&self, a: Addr4) -> Option<Addr6>
         ensures { option_map (λ x. x.0) result ≡ prefix_form (prefix_in self.now) a.0 }

@@ -2,7 +2,7 @@ ghost use Rattle.std.specs.Prelude.{◌≡◌, ◌<◌};
 
 use crate::{MapRefusal, Mapping, Means};
 use siit_addr::{Addr4, Addr6, Prefix4, Prefix6};
-use siit_eamt::{Eam, Eamt, Steps};
+use siit_eamt::{Eam, Eamt, Hit6, Steps};
 use siit_rfc6052::Embed;
 use std::marker::Brand;
 use std::process::Abort;
@@ -26,6 +26,14 @@ type Row6 = (u32, Result<(Addr6, Means), MapRefusal>);
 
 type Row4 = (u128, Result<(Addr4, Means), MapRefusal>);
 
+/// The entry that a mapping is by.
+fn hit_of(mapped: Result<(Addr6, Means), MapRefusal>) -> Option<Hit6> {
+    match mapped {
+        Ok((address, Means::Eam(entry))) => Some(Hit6 { entry, address }),
+        _ => None,
+    }
+}
+
 fn map_each<L: Ledger>(
     rt: &impl Abort,
     mapping: &Mapping,
@@ -40,11 +48,11 @@ fn map_each<L: Ledger>(
     let mut steps = Steps::<L>::new(blank);
     for (a, want) in forth {
         assert_eq!(rt; mapping.to6(Addr4(*a), &mut steps), *want);
+        assert_eq!(rt; mapping.eam_of(Addr4(*a), &mut steps), hit_of(*want));
     }
     for (x, want) in back {
         assert_eq!(rt; mapping.to4(Addr6(*x), &mut steps), *want);
     }
-    let _hit = mapping.eam_of(Addr4(0), &mut steps);
 }
 
 /// The well-known prefix, and one entry.

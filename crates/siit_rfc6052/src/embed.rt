@@ -1,4 +1,4 @@
-ghost use Rattle.std.specs.Prelude.{◌≡◌, ◌&&◌, ◌==◌, ◌*◌, ◌^◌, IfOk, IsTrue, option_map};
+ghost use Rattle.std.specs.Prelude.{◌≡◌, IfOk, IsTrue, option_map};
 ghost use Rattle.std.specs.Result.{result_err};
 ghost use Rattle.siit_rfc6052.specs.Embedding.{embedded, extracted, is_embedding_prefix, is_well_known, well_known};
 
@@ -76,7 +76,7 @@ impl Embed {
         }
     }
 
-    /// The prefix.
+    /// The prefix that was accepted.
     pub fn prefix(&self) -> Prefix6
         ensures value { result ≡ self.now }
         ensures accepted { IsTrue (is_embedding_prefix result.len result.addr.0) }
@@ -91,7 +91,8 @@ impl Embed {
         self.prefix.len == 96 && self.prefix.addr.0 == WELL_KNOWN
     }
 
-    /// The IPv6 address that holds this IPv4 address.
+    /// The IPv6 address that holds this IPv4 address: its octets follow the prefix, byte 8 (bits 64 to 71) holds none, and all
+    /// other bits past the prefix are zero (RFC 6052 section 2.2).
     pub fn embed(&self, a: Addr4) -> Addr6
         ensures { result.0 ≡ embedded self.now.len self.now.addr.0 a.0 }
     {
@@ -108,8 +109,8 @@ impl Embed {
         Addr6(self.prefix.addr.0 + octets)
     }
 
-    /// The IPv4 address inside an IPv6 address, or `None` where the prefix doesn't hold it. Bytes that hold neither
-    /// the prefix nor an octet aren't read.
+    /// The IPv4 address inside an IPv6 address, or `None` where the prefix doesn't hold it (RFC 6052 section 2.2). Bytes that hold
+    /// neither the prefix nor an octet aren't read.
     pub fn extract(&self, x: Addr6) -> Option<Addr4>
         ensures { option_map (λ a. a.0) result ≡ extracted self.now.len self.now.addr.0 x.0 }
     {
@@ -208,7 +209,11 @@ mod tests {
             assert!(rt; embed.extract(Addr6(x ^ (1 << 127))).is_none());
             assert!(rt; !embed.is_well_known());
         }
-        let well_known = Embed::new(prefix(0x64ff9b << 96, 96));
-        assert!(rt; matches!(well_known, Ok(embed) if embed.is_well_known()));
+        let well_known = Embed::new(prefix(0x64ff9b << 96, 96)).expect(
+            &rt,
+            "the well-known prefix",
+        );
+        assert!(rt; well_known.is_well_known());
+        assert_eq!(rt; Embed::well_known().prefix(), well_known.prefix());
     }
 }

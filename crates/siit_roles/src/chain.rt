@@ -20,7 +20,7 @@ impl Model for ChainSettings {
 }
 
 impl ChainSettings {
-    /// Keeps both.
+    /// The chain of this left family and these devices, from left to right. It takes no memory.
     pub fn new(left: Family, devices: Vec<Settings>) -> ChainSettings
         ensures left { result.left ≡ left }
         ensures devices { result.devices ≡ devices.items }
@@ -42,7 +42,7 @@ impl ChainSettings {
         &self.devices
     }
 
-    /// Both.
+    /// The family of the left link, and the devices from left to right, given back as they were kept.
     pub fn into_parts(self) -> (Family, Vec<Settings>)
         ensures left { result.0 ≡ self.left }
         ensures devices { result.1.items ≡ self.devices }
