@@ -25,21 +25,18 @@ fn hex_digit(byte: u8) -> Option<u8>
 }
 
 // The number that one to three decimal digits with no leading zero write.
+#[tactic(auto, using(crate::proofs::NumberIn::digit_by_digit))]
 fn read_decimal(text: &[u8]) -> Option<u16>
     ensures { result ≡ decimal_of text.now }
 {
-    match *text {
-        [ones] => Some(u16::from(decimal_digit(ones)?)),
-        [b'0', _] | [b'0', _, _] => None,
-        [tens, ones] => Some(
-            u16::from(decimal_digit(tens)?) * 10 + u16::from(decimal_digit(ones)?),
-        ),
-        [hundreds, tens, ones] => {
-            let high = u16::from(decimal_digit(hundreds)?) * 10 + u16::from(decimal_digit(tens)?);
-            Some(high * 10 + u16::from(decimal_digit(ones)?))
-        }
-        _ => None,
+    if text.is_empty() || text.len() > 3 || (text.len() > 1 && text[0] == b'0') {
+        return None;
     }
+    let mut number = 0;
+    for byte in text {
+        number = number * 10 + u16::from(decimal_digit(*byte)?);
+    }
+    Some(number)
 }
 
 /// The number of a decimal text, if it is at most 255 and at most the limit.
