@@ -98,15 +98,33 @@ fn looks_up(rt: HostRuntime) {
     assert!(rt; !table.is_disjoint(prefix6(0x64ff9b << 96, 96)));
 }
 
+/// The first entry at fault is named, by the first of its faults, and the least place that has its prefix.
 #[test]
 fn refuses_entries(rt: HostRuntime) {
-    let suffix = [entry(0xc000_0200, 24, 0x2001_0db8 << 96, 121)];
-    assert!(rt;
-        matches!(
-            Eamt::build(rt.alloc(), &suffix),
-            Err(EamFault::SuffixTooLong(0))
-        )
-    );
+    let first = entry(0xc000_0200, 24, 0x2001_0db8 << 96, 120);
+    let second = entry(0xc000_0300, 24, (0x2001_0db8 << 96) + 256, 120);
+    let rows = [
+        (
+            entry(0xc000_0201, 24, 0x2001_0db8 << 96, 120),
+            EamFault::HostBits(2),
+        ),
+        (
+            entry(0xc000_0400, 24, (0x2001_0db8 << 96) + 1, 128),
+            EamFault::SuffixTooLong(2),
+        ),
+        (
+            entry(0xc000_0300, 24, 0x2001_0db8 << 96, 120),
+            EamFault::Twice4(2, 1),
+        ),
+        (
+            entry(0xc000_0400, 24, 0x2001_0db8 << 96, 120),
+            EamFault::Twice6(2, 0),
+        ),
+    ];
+    for (third, fault) in rows {
+        let entries = [first, second, third, third];
+        assert!(rt; matches!(Eamt::build(rt.alloc(), &entries), Err(found) if found == fault));
+    }
 }
 
 /// The largest table is built, and one entry more is refused.
