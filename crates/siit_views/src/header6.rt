@@ -1,8 +1,8 @@
 ghost use Rattle.std.specs.Prelude.{◌≡◌, ◌≤◌, ◌+◌, length, IfOk, OnOk, IfErr};
-ghost use Rattle.siit_model.specs.Bytes.{field128};
 ghost use Rattle.siit_model.specs.Ipv6.{ipv6_fields, payload_length_in, version6_in};
 ghost use Rattle.siit_views.specs.Headers.{HasLength6, refusal6};
 
+use byteorder::{BigEndian, ByteOrder};
 use siit_addr::Addr6;
 use siit_rules::Rule;
 use siit_word::{get16, get32};
@@ -80,14 +80,14 @@ impl<'a> Ipv6Header<'a> {
     pub fn src(&self) -> Addr6
         ensures { result.0 ≡ (ipv6_fields self.now).source }
     {
-        Addr6(get128(self.bytes, 8))
+        Addr6(BigEndian::read_u128(&self.bytes[8..]))
     }
 
     /// The destination address.
     pub fn dst(&self) -> Addr6
         ensures { result.0 ≡ (ipv6_fields self.now).destination }
     {
-        Addr6(get128(self.bytes, 24))
+        Addr6(BigEndian::read_u128(&self.bytes[24..]))
     }
 
     /// What follows the header. Bytes of the link behind the packet aren't in it.
@@ -98,18 +98,6 @@ impl<'a> Ipv6Header<'a> {
         let end = 40 + usize::from(self.length());
         &self.bytes[40..end]
     }
-}
-
-/// The 128-bit field at a place, big-endian.
-fn get128(bytes: &[u8], at: usize) -> u128
-    requires { at + 16 ≤ length bytes.now }
-    ensures { result ≡ field128 bytes.now at }
-{
-    let first = u128::from(get32(bytes, at));
-    let second = u128::from(get32(bytes, at + 4));
-    let third = u128::from(get32(bytes, at + 8));
-    let fourth = u128::from(get32(bytes, at + 12));
-    first * (1 << 96) + second * (1 << 64) + third * (1 << 32) + fourth
 }
 
 /// Whether bytes are an IPv6 packet, with bytes of the link behind it or none: `Short6` and `BadHeader6` where they are not
