@@ -1,7 +1,7 @@
 // Files by their names, as a trait, and a whole append over it.
 ghost use Rattle.siit_word.specs.Causes.{NeverFalls, Rose};
 ghost use Rattle.siit_word.specs.Files.{Appends, Copies, GrowsBy, GrowsByPrefix, IsSmall, MadeEmpty, Raised, Stays, StaysBut};
-ghost use Rattle.std.specs.Prelude.{◌≡◌, ◌+◌, ◌≤◌, ◌++◌, ℕ, List, Option, Bool, length, min, MatchResult, IfOk, OnOk, OnErr, IsTrue};
+ghost use Rattle.std.specs.Prelude.{◌≤◌, ℕ, List, Option, Bool, length, min, IfOk, OnOk, OnErr, IsTrue};
 
 /// A call on a file that was refused.
 #[derive(Clone, Copy, Debug, PartialEq, Eq)]

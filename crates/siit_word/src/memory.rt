@@ -1,8 +1,8 @@
 // Files in memory, with calls that fail as they are told to.
-ghost use Rattle.siit_word.specs.Causes.{next_count, Rose};
+ghost use Rattle.siit_word.specs.Causes.{next_count, NeverFalls, Rose};
 ghost use Rattle.siit_word.specs.Files.{held, raised, Stays, StaysBut};
 ghost use Rattle.std.specs.Option.{option_copied};
-ghost use Rattle.std.specs.Prelude.{◌≡◌, ◌≢◌, ◌↔◌, ◌⊎◌, ◌-◌, ◌+◌, ◌≤◌, ◌++◌, ℕ, List, min, max, take, drop, length, Some, None, IfOk, OnOk, OnErr, IsErr, IsSome, IsTrue, Contains, []};
+ghost use Rattle.std.specs.Prelude.{◌≡◌, ◌≢◌, ◌↔◌, ◌⊎◌, ◌-◌, ◌≤◌, ℕ, List, min, take, drop, length, Some, None, IfOk, OnOk, OnErr, IsErr, IsSome, IsTrue, Contains, []};
 
 use crate::{Failed, Files, NoMemory};
 use std::alloc::Global;
@@ -61,6 +61,7 @@ impl MemFile {
     }
 }
 
+#[tactic(auto, using(std::proofs::lemmas::Map::Text::text_keys))]
 impl MemFiles {
     ghost use Rattle.siit_word.specs.Memory.{calls_of, contents_of, fails_of, file_at, given_of, read_faults_of, starved_of, write_faults_of, KeepsCalls, KeepsFiles};
 
@@ -182,9 +183,36 @@ impl MemFiles {
         }
     }
 
+    // Makes a file for a call of the trait, unless that call is one that is to fail.
+    fn make(&mut self, name: &str, bytes: &[u8], fails: bool) -> Result<(), Failed>
+        requires { file_at self.old name.now ≡ None }
+        ensures ok { OnOk result (contents_of self.new name.now ≡ Some bytes.now) }
+        ensures given { Stays (given_of self.old) (given_of self.new) }
+        ensures others { StaysBut name.now (file_at self.old) (file_at self.new) }
+        ensures err { OnErr result (Stays (file_at self.old) (file_at self.new)) }
+        ensures fails { IsTrue fails → IsErr result }
+        ensures reads { Stays (read_faults_of self.old) (read_faults_of self.new) }
+        ensures writes { NeverFalls (write_faults_of self.old) (write_faults_of self.new) }
+        ensures writes_ok { OnOk result (Stays (write_faults_of self.old) (write_faults_of self.new)) }
+        ensures writes_err { OnErr result (self.new.write_faults ≡ next_count self.old.write_faults) }
+        ensures starved_ok { OnOk result (self.new.starved ≡ self.old.starved) }
+        ensures starved_err { OnErr result ((IsTrue fails × (self.new.starved ≡ self.old.starved))
+            ⊎ (self.new.starved ≡ next_count self.old.starved)) }
+        ensures same { self.new ≡ record self.old { files = self.new.files; starved = self.new.starved; write_faults = self.new.write_faults } }
+    {
+        if !fails {
+            match self.add(name, bytes) {
+                Ok(()) => return Ok(()),
+                Err(NoMemory) => self.starved = self.starved.saturating_add(1),
+            }
+        }
+        self.write_faults = self.write_faults.saturating_add(1);
+        Err(Failed)
+    }
+
     // Counts a call, and says whether it is one that is to fail.
-    fn is_refused(&mut self) -> bool
-        ensures refused { IsTrue result ↔ Contains self.old.fails.items self.old.calls }
+    fn next_call_fails(&mut self) -> bool
+        ensures fails { IsTrue result ↔ Contains self.old.fails.items self.old.calls }
         ensures counted { self.new ≡ record self.old { calls = next_count self.old.calls } }
     {
         let call = self.calls;
@@ -193,8 +221,8 @@ impl MemFiles {
     }
 }
 
+#[tactic(auto, using(std::proofs::lemmas::Map::Text::text_keys))]
 impl Files for MemFiles {
-    ghost use Rattle.siit_word.specs.Causes.{NeverFalls};
     ghost use Rattle.siit_word.specs.Files.{Appends, Copies, IsSmall, MadeEmpty, Raised};
     ghost use Rattle.siit_word.specs.Memory.{calls_of, contents_of, fails_of, given_of, read_faults_of, starved_of, write_faults_of};
     ghost use Rattle.std.specs.Prelude.{true};
@@ -239,10 +267,10 @@ impl Files for MemFiles {
         ensures fails { fails_of self.new ≡ fails_of self.old }
         ensures starved { starved_of self.new ≡ starved_of self.old }
     {
-        let refused = self.is_refused();
+        let fails = self.next_call_fails();
         match self.files.get_mut(name) {
             Some(file) => {
-                if refused {
+                if fails {
                     file.read_faults = file.read_faults.saturating_add(1);
                     return Err(Failed);
                 }
@@ -283,26 +311,17 @@ impl Files for MemFiles {
         ensures counted { calls_of self.new ≡ next_count (calls_of self.old) }
         ensures fails { fails_of self.new ≡ fails_of self.old }
     {
-        let refused = self.is_refused();
+        let fails = self.next_call_fails();
         match self.files.get_mut(name) {
             Some(file) => {
-                if refused {
+                if fails {
                     file.write_faults = file.write_faults.saturating_add(1);
                     return Err(Failed);
                 }
                 file.bytes.clear();
                 Ok(())
             }
-            None => {
-                if !refused {
-                    match self.add(name, &[]) {
-                        Ok(()) => return Ok(()),
-                        Err(NoMemory) => self.starved = self.starved.saturating_add(1),
-                    }
-                }
-                self.write_faults = self.write_faults.saturating_add(1);
-                Err(Failed)
-            }
+            None => self.make(name, &[], fails),
         }
     }
 
@@ -337,10 +356,10 @@ impl Files for MemFiles {
         ensures counted { calls_of self.new ≡ next_count (calls_of self.old) }
         ensures fails { fails_of self.new ≡ fails_of self.old }
     {
-        let refused = self.is_refused();
+        let fails = self.next_call_fails();
         match self.files.get_mut(name) {
             Some(file) => {
-                if !refused {
+                if !fails {
                     if file.bytes.extend_from_slice(bytes).is_ok() {
                         return Ok(bytes.len());
                     }
@@ -350,14 +369,8 @@ impl Files for MemFiles {
                 Err(Failed)
             }
             None => {
-                if !refused {
-                    match self.add(name, bytes) {
-                        Ok(()) => return Ok(bytes.len()),
-                        Err(NoMemory) => self.starved = self.starved.saturating_add(1),
-                    }
-                }
-                self.write_faults = self.write_faults.saturating_add(1);
-                Err(Failed)
+                self.make(name, bytes, fails)?;
+                Ok(bytes.len())
             }
         }
     }
@@ -385,6 +398,19 @@ mod tests {
         assert_eq!(rt; into, [2, 3, 0, 0]);
         assert_eq!(rt; files.given("kept"), 3);
         assert!(rt; files.read("missing", 0, &mut into).is_err());
+        Ok(())
+    }
+
+    #[test]
+    fn a_file_that_is_put_again_is_unread(rt: HostRuntime) -> Result<(), Fail> {
+        let mut files = MemFiles::new(rt.alloc());
+        files.put("kept", &[1, 2])?;
+        let mut into = [0u8; 4];
+        files.read("kept", 0, &mut into)?;
+        assert_eq!(rt; files.given("kept"), 2);
+        files.put("kept", &[3])?;
+        assert_eq!(rt; files.bytes_of("kept").unwrap_or(&[]), &[3][..]);
+        assert_eq!(rt; files.given("kept"), 0);
         Ok(())
     }
 
