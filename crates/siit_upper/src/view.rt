@@ -3,6 +3,8 @@ ghost use Rattle.std.specs.Borrow.{sem};
 ghost use Rattle.siit_model.specs.Checksum as model;
 ghost use Rattle.siit_upper.specs.Parts.{LendsIcmp, LendsTcp, LendsUdp};
 
+use crate::protocols::{ICMP, ICMPV6, TCP, UDP};
+
 /// The parts of a TCP segment, to be written where they lie (RFC 793 section 3.1).
 #[derive(Drop)]
 pub struct TcpView<'a> {
@@ -49,7 +51,7 @@ pub fn udp_view(part: &mut [u8]) -> Option<UdpView<'_>>
     Some(UdpView { head, rest })
 }
 
-/// The parts of a ICMP message, to be written where they lie (RFC 792, RFC 4443).
+/// The parts of an ICMP message, to be written where they lie (RFC 792, RFC 4443).
 #[derive(Drop)]
 pub struct IcmpView<'a> {
     /// The first 8 bytes.
@@ -58,7 +60,7 @@ pub struct IcmpView<'a> {
     pub rest: &'a mut [u8],
 }
 
-/// The parts of a ICMP message, None exactly below 8 bytes. What is written through them is in `part` afterwards.
+/// The parts of an ICMP message, None exactly below 8 bytes. What is written through them is in `part` afterwards.
 pub fn icmp_view(part: &mut [u8]) -> Option<IcmpView<'_>>
     ensures* writes_back { sem 𝓛 (LendsIcmp part.entry result) }
     ensures none { IsNone result ↔ (length part.old < 8) }
@@ -77,9 +79,9 @@ pub fn checksum_place(protocol: u8) -> Option<usize>
     ensures { result ≡ model.checksum_place protocol }
 {
     match protocol {
-        1 | 58 => Some(2),
-        6 => Some(16),
-        17 => Some(6),
+        ICMP | ICMPV6 => Some(2),
+        TCP => Some(16),
+        UDP => Some(6),
         _ => None,
     }
 }

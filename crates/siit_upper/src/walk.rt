@@ -1,6 +1,6 @@
-ghost use Rattle.std.specs.Prelude.{◌≡◌, ◌↔◌, ◌≤◌, ◌<◌, ◌+◌, length, drop, suc, true, false, Ok, Err, IfOk, IfErr, IfSome, IsNone};
+ghost use Rattle.std.specs.Prelude.{◌≡◌, ◌↔◌, ◌≤◌, ◌+◌, length, true, false, Ok, Err, IfOk, IfErr, IfSome, IsNone};
 ghost use Rattle.siit_model.specs.Extensions.{extension_length, fragment_fields, is_cut_short, is_extension, is_passed, segments_with, walk_at_fragment, walk_of};
-ghost use Rattle.siit_upper.specs.Walks.{fragment_in, walk_by_rule, walked};
+ghost use Rattle.siit_upper.specs.Walks.{walk_by_rule, walked};
 
 use siit_rules::Rule;
 use siit_word::{get16, get32};
@@ -110,7 +110,7 @@ fn end_at_fragment(rest: &[u8], at: usize, segments: Option<u32>) -> Result<Walk
     if rest.len() < 8 {
         return Err(Rule::ShortExt6);
     }
-    if follows_none(rest[0]) {
+    if is_extension(rest[0]) {
         return Err(Rule::ExtAfterFragment6);
     }
     let frag = frag_info(rest);
@@ -122,8 +122,8 @@ fn end_at_fragment(rest: &[u8], at: usize, segments: Option<u32>) -> Result<Walk
     })
 }
 
-/// Whether a header of this kind may not follow a Fragment header.
-fn follows_none(next: u8) -> bool
+/// Whether a header of this kind is one that may not follow a Fragment header.
+fn is_extension(next: u8) -> bool
     ensures { result ≡ is_extension next }
 {
     matches!(next, 0 | 43 | 44 | 51 | 60 | 135 | 139 | 140)

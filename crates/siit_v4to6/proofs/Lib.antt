@@ -1,4 +1,4 @@
-pub mod Parts
+pub mod Sums
 pub mod Heads
 pub mod Written
 pub mod Good

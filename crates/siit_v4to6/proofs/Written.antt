@@ -3,7 +3,7 @@ use Rattle.std.proofs.Common.{◌≡◌, ℕ, ◌+◌, ◌*◌, ◌/◌, ◌%◌
 use Rattle.std.proofs.lemmas.List.{take_all}
 use Rattle.siit_model.specs.Bytes.{field32}
 use Rattle.siit_model.specs.Ipv6.{Ipv6Packet, IsGoodIpv6, ipv6_of, ipv6_bytes, ipv6_fields, version6_in, payload_length_in}
-use Rattle.siit_v4to6.proofs.Parts.{ltb-no}
+use Rattle.std.proofs.lemmas.Bool.{le-ltb}
 use Rattle.siit_checksum.proofs.Digits.{two-read, four-read, sixteen-read}
 
 -- the first four bytes: version, traffic class and flow label
@@ -56,7 +56,7 @@ tests-pass no_header is_six cut packet one two three = rw (one, two, three) refl
 read-fields : (bytes : List ℕ) → 40 + payload_length_in bytes ≤ length bytes → version6_in bytes ≡ 6 → ipv6_of bytes ≡ Some (ipv6_fields bytes)
 read-fields bytes fits version =
     tests-pass (nat_lt (length bytes) 40) (version6_in bytes == 6) (nat_lt (length bytes) (40 + payload_length_in bytes)) (ipv6_fields bytes)
-    (ltb-no (length bytes) 40 (omega arith)) (eq-eqb (version6_in bytes) 6 version) (ltb-no (length bytes) (40 + payload_length_in bytes) fits)
+    (le-ltb (length bytes) 40 (omega arith)) (eq-eqb (version6_in bytes) 6 version) (le-ltb (length bytes) (40 + payload_length_in bytes) fits)
 
 pub written_is_read6 : (packet : Ipv6Packet) → IsGoodIpv6 packet → ipv6_of (ipv6_bytes packet) ≡ Some packet
 written_is_read6 packet good =

@@ -1,24 +1,10 @@
-//! The upper part of a packet on its way to IPv6: transport checksums, and ICMP echo (RFC 7915 sections 4.1 and 4.2).
-ghost use Rattle.siit_v4to6.specs.To6.{echo_kind6, echo_to_6, ends_between, tcp_to_6, udp_checksum6, udp_to_6, upper_to_6, is_echo4};
-ghost use Rattle.siit_model.specs.Bytes.{field8};
-ghost use Rattle.siit_addr.specs.declared.addr.Addresses4.{Addresses4};
-ghost use Rattle.std.specs.Prelude.{◌≡◌, ◌<◌, ◌≤◌, length, IfNone, IfSome, true, false};
+//! The upper part of a packet on its way to IPv6: transport checksums and ICMP echo (RFC 7915 sections 4.5 and 4.2).
+ghost use Rattle.siit_v4to6.specs.To6.{ends_between, icmp_to_6, udp_checksum6, upper_to_6};
+ghost use Rattle.std.specs.Prelude.{◌≡◌, ◌<◌, ◌≤◌, length};
 
 use siit_addr::{Addr6, Addresses4, Addresses6};
-use siit_checksum::{pseudo_sum4, pseudo_sum6, shift, shift_udp, sum_of};
-use siit_word::{get16, put16};
-
-/// ICMP in IPv4 (RFC 792).
-const ICMP: u8 = 1;
-
-/// TCP (RFC 793).
-const TCP: u8 = 6;
-
-/// UDP (RFC 768).
-const UDP: u8 = 17;
-
-/// ICMPv6 (RFC 4443).
-const ICMPV6: u8 = 58;
+use siit_checksum::{pseudo_sum4, pseudo_sum6, sum_of};
+use siit_upper::{ICMP, ICMPV6, TCP, UDP, move_echo, move_tcp, move_udp};
 
 /// Translates the upper part of a packet of this protocol, a part that may be cut, from its old addresses to its new ones.
 /// `whole_len` is the upper part's length in bytes as sent. A checksum field that isn't whole in the part stays, and so
@@ -27,40 +13,22 @@ pub fn upper46(protocol: u8, part: &mut [u8], old: Addresses4, new: Addresses6, 
     ensures { part.new ≡ upper_to_6 protocol (ends_between old new) whole_len part.old }
 {
     match protocol {
-        TCP => tcp46(part, old, new, whole_len),
-        UDP => udp46(part, old, new, whole_len),
-        ICMP => icmp46(part, new, whole_len),
+        TCP => move_tcp(
+            part,
+            pseudo_sum4(old.src.0, old.dst.0, TCP, whole_len),
+            pseudo_sum6(new.src.0, new.dst.0, TCP, u32::from(whole_len)),
+        ),
+        UDP => move_udp(
+            part,
+            pseudo_sum4(old.src.0, old.dst.0, UDP, whole_len),
+            pseudo_sum6(new.src.0, new.dst.0, UDP, u32::from(whole_len)),
+        ),
+        ICMP => icmp46(
+            part,
+            pseudo_sum6(new.src.0, new.dst.0, ICMPV6, u32::from(whole_len)),
+        ),
         _ => {}
     }
-}
-
-/// Moves the checksum of a TCP segment, a part that may be cut.
-fn tcp46(part: &mut [u8], old: Addresses4, new: Addresses6, whole_len: u16)
-    ensures { part.new ≡ tcp_to_6 (ends_between old new) whole_len part.old }
-{
-    if part.len() < 18 {
-        return;
-    }
-    let out_sum = pseudo_sum4(old.src.0, old.dst.0, TCP, whole_len);
-    let in_sum = pseudo_sum6(new.src.0, new.dst.0, TCP, u32::from(whole_len));
-    let checksum = get16(part, 16);
-    put16(part, 16, shift(checksum, out_sum, in_sum));
-}
-
-/// Moves the checksum of a UDP datagram, a part that may be cut.
-fn udp46(part: &mut [u8], old: Addresses4, new: Addresses6, whole_len: u16)
-    ensures { part.new ≡ udp_to_6 (ends_between old new) whole_len part.old }
-{
-    if part.len() < 8 {
-        return;
-    }
-    let checksum = get16(part, 6);
-    if checksum == 0 {
-        return;
-    }
-    let out_sum = pseudo_sum4(old.src.0, old.dst.0, UDP, whole_len);
-    let in_sum = pseudo_sum6(new.src.0, new.dst.0, UDP, u32::from(whole_len));
-    put16(part, 6, shift_udp(checksum, out_sum, in_sum));
 }
 
 /// The UDP checksum over IPv6 of a whole datagram, computed from nothing (RFC 8200 section 8.1, RFC 768): its own two bytes
@@ -76,46 +44,14 @@ pub fn udp_sum6(part: &[u8], src: Addr6, dst: Addr6) -> u16
     (65535 - sum % 65535) as u16
 }
 
-/// Translates an ICMP echo message, a part that may be cut. Other ICMP messages stay. ICMPv4 has no pseudo-header, so that
-/// the old addresses don't matter.
-fn icmp46(part: &mut [u8], new: Addresses6, whole_len: u16)
-    ensures { (old : Addresses4) → part.new ≡ upper_to_6 1 (ends_between old new) whole_len part.old }
+/// Translates an ICMP echo message, a part that may be cut (RFC 7915 section 4.2). Its checksum counts the pseudo-header of
+/// residue `pseudo`, which ICMPv4 hasn't. Other ICMP messages stay.
+fn icmp46(part: &mut [u8], pseudo: u16)
+    ensures { part.new ≡ icmp_to_6 pseudo part.old }
 {
-    if let Some(kind) = echo_kind(part) {
-        echo46(part, kind, new, whole_len);
+    match part.first().copied() {
+        Some(8) => move_echo(part, 128, 0, pseudo),
+        Some(0) => move_echo(part, 129, 0, pseudo),
+        _ => {}
     }
-}
-
-/// The ICMPv6 type of an echo request or reply (RFC 7915 section 4.2), or none of another message.
-fn echo_kind(part: &[u8]) -> Option<u8>
-    ensures none { IfNone result (is_echo4 part.now ≡ false) }
-    ensures some { IfSome result (λ kind. (is_echo4 part.now ≡ true) × (kind ≡ echo_kind6 (field8 part.now 0))) }
-{
-    if part.is_empty() {
-        return None;
-    }
-    match part[0] {
-        8 => Some(128),
-        0 => Some(129),
-        _ => None,
-    }
-}
-
-/// Gives an ICMP echo message its new type, and moves its checksum by the type and by the pseudo-header.
-fn echo46(part: &mut [u8], kind: u8, new: Addresses6, whole_len: u16)
-    requires kind { kind ≡ echo_kind6 (field8 part.old 0) }
-    requires inside { is_echo4 part.old ≡ true }
-    ensures { (old : Addresses4) → part.new ≡ echo_to_6 (ends_between old new) whole_len part.old }
-{
-    if part.len() < 4 {
-        part[0] = kind;
-        return;
-    }
-    let checksum = get16(part, 2);
-    let out_sum = get16(part, 0);
-    part[0] = kind;
-    let kind_and_code = get16(part, 0);
-    let pseudo = pseudo_sum6(new.src.0, new.dst.0, ICMPV6, u32::from(whole_len));
-    let in_sum = ((u32::from(pseudo) + u32::from(kind_and_code)) % 65535) as u16;
-    put16(part, 2, shift(checksum, out_sum, in_sum));
 }

@@ -1,4 +1,3 @@
-pub mod Parts
 pub mod Heads
 pub mod Written
 pub mod Good

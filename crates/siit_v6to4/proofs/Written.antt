@@ -7,7 +7,7 @@ use Rattle.siit_model.specs.Checksum.{residue, checksum_of}
 use Rattle.siit_model.specs.Ipv4.{Ipv4Packet, IsGoodIpv4, ipv4_of, ipv4_bytes, ipv4_header, ipv4_fields, version_in, header_length_in, total_length_in, total_length4}
 use Rattle.siit_checksum.proofs.Digits.{two-read, four-read}
 use Rattle.siit_checksum.proofs.Residues.{is_right-with_checksum}
-use Rattle.siit_v6to4.proofs.Parts.{ltb-no}
+use Rattle.std.proofs.lemmas.Bool.{le-ltb}
 
 -- a packet by its fields
 packet-same : (packet : Ipv4Packet) (tos id df mf offset ttl protocol source destination : ℕ) (options payload : List ℕ)
@@ -112,9 +112,9 @@ read-fields bytes version low over fits is_right =
     tests-pass (nat_lt (length bytes) 20) (version_in bytes == 4) (nat_le 20 (header_length_in bytes)) (nat_lt (length bytes) (header_length_in bytes))
     (nat_lt (length bytes) (total_length_in bytes)) (nat_lt (header_length_in bytes) 20) (nat_lt (total_length_in bytes) (header_length_in bytes))
     (residue (take (header_length_in bytes) bytes) == 0) (ipv4_fields bytes)
-    (ltb-no (length bytes) 20 (omega arith)) (eq-eqb (version_in bytes) 4 version) (le-leb 20 (header_length_in bytes) low)
-    (ltb-no (length bytes) (header_length_in bytes) (omega arith)) (ltb-no (length bytes) (total_length_in bytes) fits)
-    (ltb-no (header_length_in bytes) 20 low) (ltb-no (total_length_in bytes) (header_length_in bytes) over)
+    (le-ltb (length bytes) 20 (omega arith)) (eq-eqb (version_in bytes) 4 version) (le-leb 20 (header_length_in bytes) low)
+    (le-ltb (length bytes) (header_length_in bytes) (omega arith)) (le-ltb (length bytes) (total_length_in bytes) fits)
+    (le-ltb (header_length_in bytes) 20 low) (le-ltb (total_length_in bytes) (header_length_in bytes) over)
     (eq-eqb (residue (take (header_length_in bytes) bytes)) 0 is_right)
 
 pub written_is_read4 : (packet : Ipv4Packet) → IsGoodIpv4 packet → ipv4_of (ipv4_bytes packet) ≡ Some packet

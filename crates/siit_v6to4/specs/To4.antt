@@ -1,11 +1,12 @@
--- The IPv4 packet of an IPv6 packet without Fragment header, for addresses that are handed in (RFC 7915 sections 5.1 and 5.2).
-use Rattle.std.specs.Prelude.{ℕ, ◌+◌, ◌-◌, ◌*◌, ◌%◌, List, [], ◌∷◌, ◌++◌, Result, length, drop, slice_set, Bool, ◌&&◌, ◌||◌, ◌==◌, nat_lt, nat_le, if◌then◌else◌}
-use Rattle.siit_model.specs.Bytes.{field8, field16, bytes16, bytes32, with_field16}
-use Rattle.siit_model.specs.Checksum.{moved, moved_udp, pseudo4, pseudo6}
+-- The IPv4 packet of an IPv6 packet without Fragment header, for addresses that are handed in (RFC 7915 sections 5.1, 5.2 and 5.5).
+use Rattle.std.specs.Prelude.{ℕ, ◌+◌, ◌-◌, ◌*◌, List, [], ◌∷◌, ◌++◌, Result, length, drop, Bool, ◌&&◌, ◌||◌, ◌==◌, nat_lt, nat_le, if◌then◌else◌}
+use Rattle.siit_model.specs.Bytes.{field8, bytes16, bytes32}
+use Rattle.siit_model.specs.Checksum.{pseudo4, pseudo6}
 use Rattle.siit_model.specs.Extensions.{Walked, Trouble, walk_of}
 use Rattle.siit_model.specs.Ipv4.{Ipv4Packet}
 use Rattle.siit_model.specs.Ipv6.{Ipv6Packet, ipv6_fields}
-use Rattle.siit_model.specs.Upper.{Ends, has_field16, kind_word}
+use Rattle.siit_model.specs.Upper.{Ends}
+use Rattle.siit_upper.specs.Moves.{echo_moved, tcp_moved, udp_moved}
 use Rattle.siit_addr.specs.declared.addr.Addresses4.{Addresses4}
 use Rattle.siit_addr.specs.declared.addr.Addresses6.{Addresses6}
 
@@ -22,24 +23,6 @@ ends_between old new = record {
 abbrev pub protocol_of : ℕ → ℕ
 protocol_of upper = if upper == 58 then 1 else upper
 
--- TCP: the checksum moves by the pseudo-headers, which are all that differs. `whole` is the upper part's length as sent.
-abbrev pub tcp_to_4 : Ends → (whole : ℕ) → List ℕ → List ℕ
-tcp_to_4 ends whole part =
-    if has_field16 part 16 then with_field16 part 16
-    (moved (field16 part 16)
-    (pseudo6 ends.source6 ends.destination6 6 whole)
-    (pseudo4 ends.source4 ends.destination4 6 whole))
-    else part
-
--- UDP: the same, but that a checksum of 0 stays.
-abbrev pub udp_to_4 : Ends → (whole : ℕ) → List ℕ → List ℕ
-udp_to_4 ends whole part =
-    if has_field16 part 6 && nat_lt 0 (field16 part 6) then with_field16 part 6
-    (moved_udp (field16 part 6)
-    (pseudo6 ends.source6 ends.destination6 17 whole)
-    (pseudo4 ends.source4 ends.destination4 17 whole))
-    else part
-
 -- an echo request or reply whose type is in the part
 abbrev pub is_echo6 : List ℕ → Bool
 is_echo6 part = nat_lt 0 (length part) && ((field8 part 0 == 128) || (field8 part 0 == 129))
@@ -48,22 +31,18 @@ is_echo6 part = nat_lt 0 (length part) && ((field8 part 0 == 128) || (field8 par
 abbrev pub echo_kind4 : ℕ → ℕ
 echo_kind4 kind = if kind == 128 then 8 else 0
 
--- ICMP echo: the type changes, and the checksum moves by it and by the pseudo-header, which ICMPv4 has not (RFC 7915 section 5.2).
-abbrev pub echo_to_4 : Ends → (whole : ℕ) → List ℕ → List ℕ
-echo_to_4 ends whole part =
-    if has_field16 part 2 then with_field16 (slice_set part 0 (echo_kind4 (field8 part 0))) 2
-    (moved (field16 part 2)
-    ((pseudo6 ends.source6 ends.destination6 58 whole + kind_word (field8 part 0) (field8 part 1)) % 65535)
-    (kind_word (echo_kind4 (field8 part 0)) (field8 part 1)))
-    else slice_set part 0 (echo_kind4 (field8 part 0))
+-- An ICMPv6 echo message gets its ICMPv4 type, and its checksum counts no longer the pseudo-header of this residue (RFC 7915 section 5.2).
+-- Other ICMPv6 messages are translated above.
+abbrev pub icmp_to_4 : (pseudo : ℕ) → List ℕ → List ℕ
+icmp_to_4 pseudo part = if is_echo6 part then echo_moved (echo_kind4 (field8 part 0)) pseudo 0 part else part
 
--- The upper part of a packet of this protocol, a part that may be cut. ICMPv6 other than echo is translated above; all other
--- protocols keep their payload.
+-- The upper part of a packet of this protocol, a part that may be cut; `whole` is its length as sent. Its checksum moves by the
+-- pseudo-headers (RFC 7915 section 5.5). Protocols other than the three keep their payload.
 abbrev pub upper_to_4 : (protocol : ℕ) → Ends → (whole : ℕ) → List ℕ → List ℕ
 upper_to_4 protocol ends whole part =
-    if protocol == 6 then tcp_to_4 ends whole part
-    else if protocol == 17 then udp_to_4 ends whole part
-    else if (protocol == 58) && is_echo6 part then echo_to_4 ends whole part
+    if protocol == 6 then tcp_moved (pseudo6 ends.source6 ends.destination6 6 whole) (pseudo4 ends.source4 ends.destination4 6 whole) part
+    else if protocol == 17 then udp_moved (pseudo6 ends.source6 ends.destination6 17 whole) (pseudo4 ends.source4 ends.destination4 17 whole) part
+    else if protocol == 58 then icmp_to_4 (pseudo6 ends.source6 ends.destination6 58 whole) part
     else part
 
 -- A packet of at most 1,260 bytes may be cut on its way; a longer one may not (RFC 7915 section 5.1).

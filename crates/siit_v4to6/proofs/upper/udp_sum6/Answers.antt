@@ -1,5 +1,5 @@
 use Rattle.std.proofs.Common.{◌∙◌, ap, ◌+◌}
-use Rattle.siit_v4to6.proofs.Parts.{udp-summed}
+use Rattle.siit_v4to6.proofs.Sums.{udp-summed}
 use Rattle.siit_v4to6.proofs.upper.udp_sum6.Goals as goal
 
 pub returns-clause-value : goal.returns-clause-value
