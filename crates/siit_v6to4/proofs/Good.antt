@@ -1,5 +1,5 @@
 -- The translated packet has a written form.
-use Rattle.std.proofs.Common.{◌≡◌, ℕ, ◌+◌, ◌<◌, ◌≤◌, List, length, drop, slice_set, Bool, true, false, nat_lt, ◌==◌, ◌&&◌, ◌∙◌, refl, subst, sym, arith}
+use Rattle.std.proofs.Common.{◌≡◌, ℕ, ◌+◌, ◌<◌, ◌≤◌, List, length, drop, true, ◌==◌, refl, subst, sym, arith}
 use Rattle.std.proofs.lemmas.Bool.Decides.{nat_tests}
 use Rattle.siit_model.specs.Bytes.{AreBytes, field8}
 use Rattle.siit_model.specs.Extensions.{Walked}

@@ -1,25 +1,17 @@
 -- The bytes of a packet with its new header.
-use Rattle.std.proofs.Common.{◌≡◌, ℕ, ◌+◌, ◌*◌, ◌-◌, ◌≤◌, List, ◌∷◌, ◌++◌, length, drop, ◌∙◌, ap, sym, subst, arith, rules, Fits, length-drop, add-zero, Result, Ok, Err, IfOk}
+use Rattle.std.proofs.Common.{◌≡◌, ℕ, ◌+◌, ◌*◌, ◌-◌, ◌≤◌, List, ◌∷◌, ◌++◌, length, drop, ◌∙◌, ap, sym, subst, arith, Fits, length-drop, add-zero, Result, Ok, IfOk}
 use mir.Syntax.{w16}
-use Rattle.std.specs.Result.{IsOkAnd, IsOk}
 use Rattle.std.proofs.lemmas.List.{take_rest, drop-drop}
 use Rattle.siit_model.specs.Bytes.{part, bytes16, bytes32}
 use Rattle.siit_model.specs.Checksum.{checksum_of, residue}
-use Rattle.siit_model.specs.Extensions.{Walked, Trouble, walk_of}
+use Rattle.siit_model.specs.Extensions.{Walked, Trouble}
 use Rattle.siit_model.specs.Ipv4.{ipv4_header, ipv4_bytes}
 use Rattle.siit_model.specs.Ipv6.{payload_length_in, ipv6_fields}
-use Rattle.siit_v6to4.specs.To4.{df_of, header_to_4, plain_header4, protocol_of, walk_in}
+use Rattle.siit_v6to4.specs.To4.{df_of, header_to_4, plain_header4, protocol_of}
 
 -- what is said of the walk, at the walk that there is
-pub at-ok : (P : Walked → Type 0) (r : Result Walked Trouble) (w : Walked) → r ≡ Ok w → IfOk r P → P w
-at-ok P r w is holds = subst (λ x. IfOk x P) is holds
-
 pub from-ok : (P : Walked → Type 0) (r : Result Walked Trouble) (w : Walked) → r ≡ Ok w → P w → IfOk r P
 from-ok P r w is holds = subst (λ x. IfOk x P) (sym is) holds
-
-pub is_ok-and : (P : Walked → Type 0) (r : Result Walked Trouble) → IsOkAnd r P → IsOk r
-is_ok-and P (Ok w) holds = search rules
-is_ok-and P (Err e) holds = absurd holds
 
 -- the body of a packet with no bytes of the link behind it
 pub body-is : (bytes : List ℕ) → length bytes ≡ 40 + payload_length_in bytes → (ipv6_fields bytes).body ≡ drop 40 bytes
@@ -63,35 +55,9 @@ head-is source destination tos id walk bytes new total ttl protocol header_len w
     ∙ ap (λ n. n ++ drop header_len bytes) (header-is source destination tos id (checksum_of (residue (ipv4_header (header_to_4 source destination tos id walk (ipv6_fields bytes)) 0))) walk bytes total ttl protocol size is_ttl is_protocol)
     ∙ ap (λ n. ipv4_header (header_to_4 source destination tos id walk (ipv6_fields bytes)) (checksum_of (residue (ipv4_header (header_to_4 source destination tos id walk (ipv6_fields bytes)) 0))) ++ n) (sym body)
 
--- the walk that the code takes is that of the packet
-pub walk-there : (bytes header payload : List ℕ) (next : ℕ) (w : Walked) → header ≡ bytes → next ≡ (ipv6_fields header).next → payload ≡ (ipv6_fields header).body
-    → walk_of next payload ≡ Ok w → walk_in bytes ≡ Ok w
-walk-there bytes header payload next w same is_next is_payload found =
-    sym (ap (λ n. walk_of n payload) is_next ∙ ap (walk_of (ipv6_fields header).next) is_payload ∙ ap walk_in same) ∙ found
-
-pub walk-accepted : (P : Walked → Type 0) (bytes header payload : List ℕ) (next : ℕ) → header ≡ bytes → next ≡ (ipv6_fields header).next
-    → payload ≡ (ipv6_fields header).body → IsOkAnd (walk_in bytes) P → IsOk (walk_of next payload)
-walk-accepted P bytes header payload next same is_next is_payload accepted =
-    let here : walk_in bytes ≡ walk_of next payload = sym (ap (λ n. walk_of n payload) is_next ∙ ap (walk_of (ipv6_fields header).next) is_payload ∙ ap walk_in same) in
-    is_ok-and P (walk_of next payload) (subst (λ r. IsOkAnd r P) here accepted)
-
-pub total-fits : (bytes header : List ℕ) (w : Walked) (len : ℕ) → header ≡ bytes → length bytes ≡ 40 + payload_length_in bytes
-    → len ≡ payload_length_in header → walk_in bytes ≡ Ok w → IfOk (walk_in bytes) (λ walk. 20 + length (drop walk.at (ipv6_fields bytes).body) ≤ 65535)
-    → 20 + (len - w.at) ≤ 65535
-total-fits bytes header w len same whole is_len there fits =
-    let small = at-ok (λ walk. 20 + length (drop walk.at (ipv6_fields bytes).body) ≤ 65535) (walk_in bytes) w there fits in
-    let size : length (drop w.at (ipv6_fields bytes).body) ≡ len - w.at =
-    length-drop w.at (ipv6_fields bytes).body ∙ ap (λ n. n - w.at) (body-length bytes whole ∙ sym (is_len ∙ ap payload_length_in same)) in
-    subst (λ n. 20 + n ≤ 65535) size small
-
 -- a length of 16 bits
 pub fits16 : (n : ℕ) → n ≤ 65535 → Fits w16 n
 fits16 n small = omega arith
-
-pub walk-within : (bytes header payload : List ℕ) (at : ℕ) → header ≡ bytes → payload ≡ (ipv6_fields header).body → length bytes ≡ 40 + payload_length_in bytes
-    → at ≤ length payload → at ≤ payload_length_in bytes
-walk-within bytes header payload at same is_payload whole within =
-    subst (λ n. at ≤ n) (ap length is_payload ∙ ap (λ b. length (ipv6_fields b).body) same ∙ body-length bytes whole) within
 
 -- the upper part's length
 pub upper-length-is : (bytes : List ℕ) (at : ℕ) → length bytes ≡ 40 + payload_length_in bytes → length (drop at (ipv6_fields bytes).body) ≡ payload_length_in bytes - at

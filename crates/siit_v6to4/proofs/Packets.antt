@@ -46,11 +46,6 @@ behind-length protocol ends whole bytes inside =
 header-inside : (source destination tos id : ℕ) (walk : Walked) (packet : Ipv6Packet) → 20 ≤ length (ipv4_bytes (header_to_4 source destination tos id walk packet))
 header-inside source destination tos id walk packet = omega arith
 
-pub plain-inside : (source destination tos id : ℕ) (walk : Walked) (packet : Ipv6Packet) (plain lent : List ℕ) → lent ≡ plain
-    → plain ≡ ipv4_bytes (header_to_4 source destination tos id walk packet) → 20 ≤ length lent
-plain-inside source destination tos id walk packet plain lent is_lent is_plain =
-    subst (λ n. 20 ≤ n) (sym (ap length (is_lent ∙ is_plain))) (header-inside source destination tos id walk packet)
-
 pub translated-is : (packet : Ipv6Packet) (walk : Walked) (source destination tos id source6 destination6 whole : ℕ) (plain lent left : List ℕ)
     → lent ≡ plain → plain ≡ ipv4_bytes (header_to_4 source destination tos id walk packet)
     → left ≡ take 20 lent ++ upper_to_4 walk.upper (record { source4 = source; destination4 = destination; source6 = source6; destination6 = destination6 }) whole (drop 20 lent)

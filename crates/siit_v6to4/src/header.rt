@@ -1,17 +1,16 @@
 //! The header of a packet on its way to IPv4 (RFC 7915 section 5.1).
 ghost use Rattle.siit_model.specs.Checksum.{checksum_of, residue};
-ghost use Rattle.siit_model.specs.Extensions.{walk_of};
 ghost use Rattle.siit_model.specs.Ipv4.{ipv4_bytes};
 ghost use Rattle.siit_model.specs.Ipv6.{ipv6_fields, payload_length_in};
 ghost use Rattle.siit_upper.specs.Walks.{walked};
-ghost use Rattle.siit_v6to4.specs.To4.{df_of, header_to_4, plain_header4, protocol_of, walk_in};
+ghost use Rattle.siit_v6to4.specs.To4.{header_to_4, plain_header4, protocol_of, walk_in};
 ghost use Rattle.siit_views.specs.Headers.{HasLength6};
 ghost use Rattle.std.specs.Prelude.{◌≡◌, ◌≤◌, ◌+◌, length, drop, None, Ok, IfOk};
 ghost use Rattle.std.specs.Result.{IsOkAnd, IsOk};
 
 use crate::fields::Head64;
 use siit_checksum::sum_of;
-use siit_upper::{Walk, walk_ext};
+use siit_upper::{ICMP, ICMPV6, Walk, walk_ext};
 use siit_views::{Ipv6Header, PacketBuf, replace_front};
 use siit_word::{put16, put32};
 
@@ -33,31 +32,43 @@ pub fn head64(buf: &mut PacketBuf, to: &Head64)
         buf.new.bytes ≡ ipv4_bytes (header_to_4 to.now.src.0 to.now.dst.0 to.now.tos to.now.ident walk (ipv6_fields buf.old.bytes))) }
     ensures front { IfOk (walk_in buf.old.bytes) (λ walk. buf.new.front + 20 ≡ buf.old.front + 40 + walk.at) }
 {
+    let walk = accepted_walk(&Ipv6Header::new(buf.bytes()));
+    put_header(buf, to, walk);
+}
+
+/// The walk over the extension headers of a packet that has one.
+pub(crate) fn accepted_walk(header: &Ipv6Header<'_>) -> Walk
+    requires packet { HasLength6 header.now }
+    requires accepted { IsOk (walk_in header.now) }
+    ensures walk { walk_in header.now ≡ Ok (walked result) }
+    ensures within { result.at ≤ payload_length_in header.now }
+{
+    walk_ext(header.payload(), header.next()).unwrap()
+}
+
+/// The same as `head64`, for the walk over the packet's extension headers.
+pub(crate) fn put_header(buf: &mut PacketBuf, to: &Head64, walk: Walk)
+    requires no_padding { length buf.old.bytes ≡ 40 + payload_length_in buf.old.bytes }
+    requires alive { 1 ≤ (ipv6_fields buf.old.bytes).hop }
+    requires within { walk.at ≤ payload_length_in buf.old.bytes }
+    requires fits { 20 + length (drop walk.at (ipv6_fields buf.old.bytes).body) ≤ 65535 }
+    ensures bytes { buf.new.bytes
+        ≡ ipv4_bytes (header_to_4 to.now.src.0 to.now.dst.0 to.now.tos to.now.ident (walked walk) (ipv6_fields buf.old.bytes)) }
+    ensures front { buf.new.front + 20 ≡ buf.old.front + 40 + walk.at }
+{
     let header = Ipv6Header::new(buf.bytes());
-    let payload_len = header.length();
-    let walk = accepted_walk(header.payload(), header.next());
-    let total = 20 + (payload_len - walk.at);
+    let total = 20 + (header.length() - walk.at);
     let ttl = header.hop() - 1;
     let written = ipv4_header(*to, total, ttl, protocol(walk.upper));
     replace_front(buf, 40 + usize::from(walk.at), &written);
 }
 
-/// The walk over the extension headers of a packet that has one.
-pub(crate) fn accepted_walk(payload: &[u8], first: u8) -> Walk
-    requires length { length payload.now ≤ 65535 }
-    requires accepted { IsOk (walk_of first payload.now) }
-    ensures walk { walk_of first payload.now ≡ Ok (walked result) }
-    ensures within { result.at ≤ length payload.now }
-{
-    walk_ext(payload, first).unwrap()
-}
-
-/// The protocol of an upper part: ICMP is 58 in IPv6 and 1 in IPv4.
+/// The protocol of an upper part: ICMPv6 becomes ICMP.
 fn protocol(upper: u8) -> u8
     ensures { result ≡ protocol_of upper }
 {
     match upper {
-        58 => 1,
+        ICMPV6 => ICMP,
         _ => upper,
     }
 }

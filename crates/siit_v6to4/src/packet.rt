@@ -7,7 +7,7 @@ ghost use Rattle.std.specs.Prelude.{◌≡◌, ◌≤◌, ◌+◌, ◌++◌, len
 ghost use Rattle.std.specs.Result.{IsOkAnd};
 
 use crate::fields::Head64;
-use crate::header::{accepted_walk, head64};
+use crate::header::{accepted_walk, put_header};
 use crate::upper::upper64;
 use siit_addr::{Addresses4, Addresses6};
 use siit_views::{Ipv6Header, PacketBuf};
@@ -33,10 +33,10 @@ pub fn translate64(buf: &mut PacketBuf, to: &Head64)
         src: to.src,
         dst: to.dst,
     };
-    let payload_len = header.length();
-    let walk = accepted_walk(header.payload(), header.next());
-    head64(buf, to);
-    upper_behind(buf.bytes_mut(), walk.upper, old, new, payload_len - walk.at);
+    let walk = accepted_walk(&header);
+    let whole_len = header.length() - walk.at;
+    put_header(buf, to, walk);
+    upper_behind(buf.bytes_mut(), walk.upper, old, new, whole_len);
 }
 
 /// Translates the upper part behind an IPv4 header with no options.

@@ -93,7 +93,8 @@ impl<'a> Ipv6Header<'a> {
     /// What follows the header. Bytes of the link behind the packet aren't in it.
     pub fn payload(&self) -> &'a [u8]
         requires { HasLength6 self.now }
-        ensures { result.now ≡ (ipv6_fields self.now).body }
+        ensures value { result.now ≡ (ipv6_fields self.now).body }
+        ensures most { length result.now ≤ 65535 }
     {
         let end = 40 + usize::from(self.length());
         &self.bytes[40..end]

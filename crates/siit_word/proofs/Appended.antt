@@ -5,12 +5,6 @@ use Rattle.std.proofs.lemmas.List.{take_rest}
 use Rattle.std.proofs.Math.Seq.{take-add}
 use Rattle.siit_word.specs.Files.{held, grown, GrowsBy}
 
--- what a file holds that grew
-pub held-grown : (file : Option (List ℕ)) (bytes : List ℕ) → held (grown file bytes) ≡ held file ++ bytes
-held-grown (Some xs) bytes = refl
-held-grown None [] = refl
-held-grown None (b ∷ bs) = refl
-
 -- a file that grows twice
 pub grown-grown : (file : Option (List ℕ)) (first more : List ℕ) → grown (grown file first) more ≡ grown file (first ++ more)
 grown-grown (Some xs) first more = ap Some (append_assoc xs first more)
