@@ -8,10 +8,14 @@ ghost use Rattle.std.specs.Prelude.{◌≡◌, ◌≤◌, ◌+◌, ◌*◌, ◌^
 
 use crate::fields::Head46;
 use byteorder::{BigEndian, ByteOrder};
+use siit_upper::{ICMP, ICMPV6};
 use siit_views::{Ipv4Header, PacketBuf, replace_front};
 use siit_word::{put16, put32};
 
 /// Puts an IPv6 header in place of the IPv4 header, in the same buffer. The payload stays where it lies, and options are gone.
+///
+/// The buffer holds one IPv4 packet and no bytes of the link behind it, which is no fragment and has a TTL of at least 1. At
+/// least 28 bytes lie free before it. `to.fragment` is false.
 pub fn head46(buf: &mut PacketBuf, to: &Head46)
     requires packet { HasLengths4 buf.old.bytes }
     requires no_padding { length buf.old.bytes ≡ total_length_in buf.old.bytes }
@@ -31,12 +35,12 @@ pub fn head46(buf: &mut PacketBuf, to: &Head46)
     replace_front(buf, header_len, &written);
 }
 
-/// The next header of a protocol: ICMP is 1 in IPv4 and 58 in IPv6.
+/// The next header of a protocol: ICMP becomes ICMPv6.
 fn next_header(protocol: u8) -> u8
     ensures { result ≡ next_header_of protocol }
 {
     match protocol {
-        1 => 58,
+        ICMP => ICMPV6,
         _ => protocol,
     }
 }

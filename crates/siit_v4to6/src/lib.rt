@@ -1,4 +1,4 @@
-//! From IPv4 to IPv6 (RFC 7915 sections 4.1 and 4.2).
+//! From IPv4 to IPv6 (RFC 7915 sections 4.1, 4.2 and 4.5).
 #![tactic(auto)]
 
 mod examples;

@@ -12,7 +12,9 @@ use siit_addr::{Addresses4, Addresses6};
 use siit_views::{Ipv4Header, PacketBuf};
 
 /// Makes a whole IPv4 packet the translated IPv6 packet, in the same buffer (RFC 7915 section 4): `head46`, and `upper46` on
-/// its payload. ICMP other than echo stays as it is, and so does a UDP checksum of 0.
+/// its payload. ICMP other than echo stays as it is, and so does a UDP checksum of 0. The conditions are those of `head46`: one
+/// packet and no bytes of the link behind it, no fragment, a TTL of at least 1, at least 28 free bytes before it, and
+/// `to.fragment` false.
 pub fn translate46(buf: &mut PacketBuf, to: &Head46)
     requires packet { HasLengths4 buf.old.bytes }
     requires no_padding { length buf.old.bytes ≡ total_length_in buf.old.bytes }

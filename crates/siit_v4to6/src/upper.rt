@@ -31,8 +31,8 @@ pub fn upper46(protocol: u8, part: &mut [u8], old: Addresses4, new: Addresses6, 
     }
 }
 
-/// The UDP checksum over IPv6 of a whole datagram, computed from nothing (RFC 8200 section 8.1, RFC 768): its own two bytes
-/// count as zero, and it is in 1 to 65535.
+/// The UDP checksum over IPv6 of a whole datagram of 8 to 65,535 bytes, computed from nothing (RFC 8200 section 8.1, RFC 768):
+/// its own two bytes count as zero, and it is in 1 to 65535.
 pub fn udp_sum6(part: &[u8], src: Addr6, dst: Addr6) -> u16
     requires header { 8 ≤ length part.now }
     requires fits { length part.now ≤ 65535 }

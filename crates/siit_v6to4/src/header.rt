@@ -22,6 +22,9 @@ const DONT_FRAGMENT: u16 = 0x4000;
 
 /// Puts an IPv4 header in place of the IPv6 header and its extension headers, in the same buffer. The upper part stays where
 /// it lies.
+///
+/// The buffer holds one IPv6 packet and no bytes of the link behind it, whose extension headers `walk_ext` accepts, which has
+/// no Fragment header and a hop limit of at least 1, and whose IPv4 form has at most 65,535 bytes.
 pub fn head64(buf: &mut PacketBuf, to: &Head64)
     requires packet { HasLength6 buf.old.bytes }
     requires no_padding { length buf.old.bytes ≡ 40 + payload_length_in buf.old.bytes }

@@ -1,4 +1,4 @@
-//! From IPv6 to IPv4 (RFC 7915 sections 5.1 and 5.2).
+//! From IPv6 to IPv4 (RFC 7915 sections 5.1, 5.2 and 5.5).
 #![tactic(auto)]
 
 mod examples;

@@ -13,7 +13,9 @@ use siit_addr::{Addresses4, Addresses6};
 use siit_views::{Ipv6Header, PacketBuf};
 
 /// Makes a whole IPv6 packet the translated IPv4 packet, in the same buffer (RFC 7915 section 5): `head64`, and `upper64` on
-/// its upper part. ICMPv6 other than echo stays as it is, and so does a UDP checksum of 0.
+/// its upper part. ICMPv6 other than echo stays as it is, and so does a UDP checksum of 0. The conditions are those of `head64`:
+/// one packet and no bytes of the link behind it, extension headers that `walk_ext` accepts, no Fragment header, a hop limit of
+/// at least 1, and an IPv4 form of at most 65,535 bytes.
 pub fn translate64(buf: &mut PacketBuf, to: &Head64)
     requires packet { HasLength6 buf.old.bytes }
     requires no_padding { length buf.old.bytes ≡ 40 + payload_length_in buf.old.bytes }
