@@ -1,7 +1,7 @@
 -- What bytes end as, from what their parts end as.
-use Rattle.std.proofs.Common.{ℕ, List, [], ◌∷◌, ◌+◌, ◌++◌, drop as drop_l, Some, None, MutBor}
+use Rattle.std.proofs.Common.{ℕ, List, [], ◌∷◌, ◌+◌, ◌++◌, drop as drop_l, MutBor}
 use seplogic.Ra.Ura.{Ura}
-use base.Logic.{ent, sep, wand, id⊢}
+use base.Logic.{ent, sep, wand}
 use base.Fml.{GName, fsep}
 use types.Logic.{Logic, sem}
 use types.Kit.{‵, ◌⊛◌, split, ◌$◌, ◌∵◌, !, qed, by, move, use2, join, fsplit, fsplit3, each, assume}
@@ -9,13 +9,12 @@ use types.Follow.{followed₂}
 use denote.Memory.{mem}
 use denote.Array.{Array}
 use denote.Builtin.{u8}
-use denote.Follow.{both_by, both_if_by}
+use denote.Follow.{both_by}
 use Rattle.siit_model.specs.Ipv4.{total_length_in}
 use Rattle.siit_model.specs.Ipv6.{payload_length_in}
-use Rattle.siit_views.specs.declared.parts.Halves.{Halves}
 use Rattle.siit_views.specs.declared.ipv4.Ipv4View.{Ipv4View}
 use Rattle.siit_views.specs.declared.ipv6.Ipv6View.{Ipv6View}
-use Rattle.siit_views.specs.Parts.{LendsHalves, LendsHalvesIf, ends_as, lends_both, lends_packet4, lends_packet6}
+use Rattle.siit_views.specs.Parts.{ends_as, lends_both, lends_packet4, lends_packet6}
 
 module _ {M : Type 1} {𝓤 : Ura M} (𝓛 : Logic 𝓤) where
   -- both parts' last bytes are joined the whole's
@@ -23,15 +22,6 @@ module _ {M : Type 1} {𝓤 : Ura M} (𝓛 : Logic 𝓤) where
       → ent 𝓤 (sep 𝓤 (sep 𝓤 (sem 𝓛 (ends_as front xs)) (sem 𝓛 (ends_as rest ys))) (sem 𝓛 (lends_both whole front rest))) (sem 𝓛 (ends_as whole (xs ++ ys)))
   unfolding both_by
   joined whole front rest xs ys = followed₂ 𝓛 (mem (Array u8 0)) (mem (Array u8 0)) (mem (Array u8 0)) ◌++◌ whole front rest xs ys
-
-  -- nothing was lent
-  pub at_none : (bytes : MutBor (List ℕ)) → ent 𝓤 (sem 𝓛 (LendsHalvesIf bytes None)) (sem 𝓛 (ends_as bytes.ghost_name bytes.now))
-  unfolding both_if_by
-  at_none bytes = id⊢ 𝓤 _
-
-  pub at_some : (bytes : MutBor (List ℕ)) (h : Halves) → ent 𝓤 (sem 𝓛 (LendsHalvesIf bytes (Some h))) (sem 𝓛 (LendsHalves bytes h))
-  unfolding both_if_by
-  at_some bytes h = id⊢ 𝓤 _
 
   -- a packet with its link's padding, lent as header and payload
   pub packet6 : (bytes : MutBor (List ℕ)) (front rest : GName) (view : Ipv6View)

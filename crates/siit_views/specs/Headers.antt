@@ -1,5 +1,5 @@
 -- What the first bytes of a packet must be before it is read as IPv4 or IPv6.
-use Rattle.std.specs.Prelude.{ℕ, ◌+◌, ◌≤◌, List, length, take, if◌then◌else◌, Option, Some, None}
+use Rattle.std.specs.Prelude.{ℕ, ◌+◌, ◌≤◌, List, length, if◌then◌else◌, Option, Some, None}
 use Rattle.siit_model.specs.Ipv4.{header_length_in, total_length_in, is_short4, is_bad_header4}
 use Rattle.siit_model.specs.Ipv6.{payload_length_in, is_short6, is_bad_header6}
 use Rattle.siit_rules.specs.declared.rule.Rule.{Rule}
@@ -22,10 +22,3 @@ pub record HasLengths4 (bytes : List ℕ) : Type 0 where
 -- the length that an IPv6 header tells lies within the bytes
 pub record HasLength6 (bytes : List ℕ) : Type 0 where
   pub fits : 40 + payload_length_in bytes ≤ length bytes
-
--- The bytes of a packet without those of the link behind it. Where the header is bad, no packet's length is known.
-abbrev pub without_padding4 : List ℕ → List ℕ
-without_padding4 bytes = if is_bad_header4 bytes then bytes else take (total_length_in bytes) bytes
-
-abbrev pub without_padding6 : List ℕ → List ℕ
-without_padding6 bytes = if is_bad_header6 bytes then bytes else take (40 + payload_length_in bytes) bytes

@@ -1,8 +1,7 @@
 -- What bytes end as that were lent in parts.
-use Rattle.std.specs.Prelude.{ℕ, List, ◌+◌, ◌++◌, drop, Option, Some, None, Result, Ok, Err}
-use Rattle.std.specs.Borrow.{follows_both, follows_both_if, MutBor, Fml, GName, Array, u8, fsep}
+use Rattle.std.specs.Prelude.{ℕ, List, ◌+◌, ◌++◌, drop, Result, Ok, Err}
+use Rattle.std.specs.Borrow.{follows_both, MutBor, Fml, GName, Array, u8, fsep}
 use base.Fml.{fall, fres, fwand}
-use mathlib.Core.Option as maybe
 use Rattle.siit_model.specs.Ipv4.{total_length_in}
 use Rattle.siit_model.specs.Ipv6.{payload_length_in}
 use Rattle.siit_rules.specs.declared.rule.Rule.{Rule}
@@ -17,15 +16,6 @@ lends_both whole front rest = follows_both (Array u8 0) (Array u8 0) (Array u8 0
 
 abbrev pub LendsHalves : MutBor (List ℕ) → Halves → Fml
 LendsHalves bytes h = lends_both bytes.ghost_name h.front.ghost_name h.rest.ghost_name
-
--- the names of the two halves, where there are any
-abbrev pub half_names : Option Halves → maybe.Option (GName × GName)
-half_names None = maybe.none
-half_names (Some h) = maybe.some (h.front.ghost_name, h.rest.ghost_name)
-
--- the whole ends as the two halves joined, or stays as it was
-abbrev pub LendsHalvesIf : MutBor (List ℕ) → Option Halves → Fml
-LendsHalvesIf bytes h = follows_both_if (Array u8 0) (Array u8 0) (Array u8 0) bytes.ghost_name (half_names h) ◌++◌ bytes.now
 
 abbrev pub LendsFragment : MutBor (List ℕ) → FragView → Fml
 LendsFragment part v = lends_both part.ghost_name v.field.ghost_name v.rest.ghost_name

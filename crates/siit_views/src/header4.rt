@@ -1,4 +1,4 @@
-ghost use Rattle.std.specs.Prelude.{◌≡◌, ◌≤◌, ◌+◌, ◌==◌, length, IfOk, OnOk, IfErr};
+ghost use Rattle.std.specs.Prelude.{◌≡◌, ◌≤◌, ◌==◌, length, IfOk, OnOk, IfErr};
 ghost use Rattle.siit_model.specs.Bytes.{field16};
 ghost use Rattle.siit_model.specs.Ipv4.{header_length_in, ipv4_fields, total_length_in, version_in};
 ghost use Rattle.siit_views.specs.Headers.{HasLengths4, refusal4};
@@ -18,7 +18,6 @@ pub struct Ipv4Header<'a> {
 // Clauses see the bytes.
 impl<'a> Model for Ipv4Header<'a> {
     ghost use Rattle.std.specs.Prelude.{ℕ, List, ◌≤◌, length};
-    ghost use Rattle.std.specs.Borrow.{Bor};
 
     ghost Value = { List ℕ };
 

@@ -1,12 +1,12 @@
-ghost use Rattle.std.specs.Prelude.{◌≡◌, ◌≤◌, ◌+◌, ◌==◌, ◌↔◌, length, take, drop, true, IsNone, IsSome, IfSome, IfOk, IfErr, OnOk};
+ghost use Rattle.std.specs.Prelude.{◌≡◌, ◌≤◌, ◌==◌, length, take, Some, None, IfOk, IfErr, OnOk};
 ghost use Rattle.std.specs.Borrow.{sem};
 ghost use Rattle.siit_model.specs.Bytes.{field16};
-ghost use Rattle.siit_model.specs.Ipv4.{header_length_in, ipv4_fields, is_short4, total_length_in};
-ghost use Rattle.siit_views.specs.Headers.{refusal4, without_padding4};
-ghost use Rattle.siit_views.specs.Parts.{LendsHalvesIf, LendsPacket4};
+ghost use Rattle.siit_model.specs.Ipv4.{ipv4_fields, total_length_in};
+ghost use Rattle.siit_views.specs.Headers.{refusal4};
+ghost use Rattle.siit_views.specs.Parts.{LendsPacket4};
 
 use crate::header4::{Ipv4Header, check4};
-use crate::parts::{Halves, split_parts};
+use crate::parts::split_parts;
 use siit_addr::Addr4;
 use siit_rules::Rule;
 
@@ -32,61 +32,18 @@ pub fn view4(bytes: &mut [u8]) -> Result<Ipv4View<'_>, Rule>
     ensures options { IfOk result (λ view. view.options.now ≡ (ipv4_fields bytes.old).options) }
     ensures payload { IfOk result (λ view. view.payload.now ≡ (ipv4_fields bytes.old).payload) }
 {
-    let Some(outer) = packet_of4(bytes) else {
-        return Err(Rule::Short4);
+    let lengths = match check4(bytes) {
+        Ok(lengths) => lengths,
+        Err(rule) => return Err(rule),
     };
-    let Some(inner) = header_of4(outer.front) else {
-        return Err(Rule::BadHeader4);
-    };
-    let first = split_parts(inner.front, 20);
+    let packet = split_parts(bytes, lengths.total);
+    let whole = split_parts(packet.front, lengths.header);
+    let header = split_parts(whole.front, 20);
     Ok(Ipv4View {
-        head: first.front,
-        options: first.rest,
-        payload: inner.rest,
+        head: header.front,
+        options: header.rest,
+        payload: whole.rest,
     })
-}
-
-/// The packet without the bytes of the link behind it, and these. None where the bytes are short.
-fn packet_of4(bytes: &mut [u8]) -> Option<Halves<'_>>
-    ensures* writes_back { sem 𝓛 (LendsHalvesIf bytes.entry result) }
-    ensures none { IsNone result ↔ (is_short4 bytes.old ≡ true) }
-    ensures packet { IfSome result (λ parts. parts.front.now ≡ without_padding4 bytes.old) }
-    ensures padding { IfSome result (λ parts. parts.rest.now ≡ drop (length (without_padding4 bytes.old)) bytes.old) }
-{
-    let Some(len) = packet_len4(bytes) else {
-        return None;
-    };
-    let (front, rest) = bytes.split_at_mut(len);
-    Some(Halves { front, rest })
-}
-
-/// How many bytes are the packet's. None where they are short.
-fn packet_len4(bytes: &[u8]) -> Option<usize>
-    ensures none { IsNone result ↔ (is_short4 bytes.now ≡ true) }
-    ensures len { IfSome result (λ len. len ≡ length (without_padding4 bytes.now)) }
-    ensures packet { IfSome result (λ len. take len bytes.now ≡ without_padding4 bytes.now) }
-    ensures within { IfSome result (λ len. len ≤ length bytes.now) }
-{
-    match check4(bytes) {
-        Ok(lengths) => Some(lengths.total),
-        Err(Rule::Short4) => None,
-        Err(_) => Some(bytes.len()),
-    }
-}
-
-/// The header with its options and the payload of a packet that no bytes follow. None where the bytes are no IPv4 packet.
-fn header_of4(packet: &mut [u8]) -> Option<Halves<'_>>
-    ensures* writes_back { sem 𝓛 (LendsHalvesIf packet.entry result) }
-    ensures none { IsNone result ↔ IsSome (refusal4 packet.old) }
-    ensures least { IfSome result (λ parts. 20 ≤ length parts.front.now) }
-    ensures header { IfSome result (λ parts. parts.front.now ≡ take (header_length_in packet.old) packet.old) }
-    ensures payload { IfSome result (λ parts. parts.rest.now ≡ drop (header_length_in packet.old) packet.old) }
-{
-    let Ok(lengths) = check4(packet) else {
-        return None;
-    };
-    let (front, rest) = packet.split_at_mut(lengths.header);
-    Some(Halves { front, rest })
 }
 
 impl Ipv4View<'_> {

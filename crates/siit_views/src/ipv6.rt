@@ -1,11 +1,11 @@
-ghost use Rattle.std.specs.Prelude.{◌≡◌, ◌≤◌, ◌+◌, ◌↔◌, length, take, drop, true, IsNone, IsSome, IfSome, IfOk, IfErr, OnOk};
+ghost use Rattle.std.specs.Prelude.{◌≡◌, ◌≤◌, length, take, Some, None, IfOk, IfErr, OnOk};
 ghost use Rattle.std.specs.Borrow.{sem};
-ghost use Rattle.siit_model.specs.Ipv6.{ipv6_fields, is_short6, payload_length_in};
-ghost use Rattle.siit_views.specs.Headers.{refusal6, without_padding6};
-ghost use Rattle.siit_views.specs.Parts.{LendsHalvesIf, LendsPacket6};
+ghost use Rattle.siit_model.specs.Ipv6.{ipv6_fields, payload_length_in};
+ghost use Rattle.siit_views.specs.Headers.{refusal6};
+ghost use Rattle.siit_views.specs.Parts.{LendsPacket6};
 
 use crate::header6::{Ipv6Header, check6};
-use crate::parts::Halves;
+use crate::parts::split_parts;
 use siit_addr::Addr6;
 use siit_rules::Rule;
 
@@ -28,58 +28,16 @@ pub fn view6(bytes: &mut [u8]) -> Result<Ipv6View<'_>, Rule>
     ensures head { IfOk result (λ view. view.head.now ≡ take 40 bytes.old) }
     ensures payload { IfOk result (λ view. view.payload.now ≡ (ipv6_fields bytes.old).body) }
 {
-    let Some(outer) = packet_of6(bytes) else {
-        return Err(Rule::Short6);
+    let total = match check6(bytes) {
+        Ok(total) => total,
+        Err(rule) => return Err(rule),
     };
-    let Some(inner) = header_of6(outer.front) else {
-        return Err(Rule::BadHeader6);
-    };
+    let packet = split_parts(bytes, total);
+    let parts = split_parts(packet.front, 40);
     Ok(Ipv6View {
-        head: inner.front,
-        payload: inner.rest,
+        head: parts.front,
+        payload: parts.rest,
     })
-}
-
-/// The packet without the bytes of the link behind it, and these. None where the bytes are short.
-fn packet_of6(bytes: &mut [u8]) -> Option<Halves<'_>>
-    ensures* writes_back { sem 𝓛 (LendsHalvesIf bytes.entry result) }
-    ensures none { IsNone result ↔ (is_short6 bytes.old ≡ true) }
-    ensures packet { IfSome result (λ parts. parts.front.now ≡ without_padding6 bytes.old) }
-    ensures padding { IfSome result (λ parts. parts.rest.now ≡ drop (length (without_padding6 bytes.old)) bytes.old) }
-{
-    let Some(len) = packet_len6(bytes) else {
-        return None;
-    };
-    let (front, rest) = bytes.split_at_mut(len);
-    Some(Halves { front, rest })
-}
-
-/// How many bytes are the packet's. None where they are short.
-fn packet_len6(bytes: &[u8]) -> Option<usize>
-    ensures none { IsNone result ↔ (is_short6 bytes.now ≡ true) }
-    ensures len { IfSome result (λ len. len ≡ length (without_padding6 bytes.now)) }
-    ensures packet { IfSome result (λ len. take len bytes.now ≡ without_padding6 bytes.now) }
-    ensures within { IfSome result (λ len. len ≤ length bytes.now) }
-{
-    match check6(bytes) {
-        Ok(total) => Some(total),
-        Err(Rule::Short6) => None,
-        Err(_) => Some(bytes.len()),
-    }
-}
-
-/// The header and the payload of a packet that no bytes follow. None where the bytes are no IPv6 packet.
-fn header_of6(packet: &mut [u8]) -> Option<Halves<'_>>
-    ensures* writes_back { sem 𝓛 (LendsHalvesIf packet.entry result) }
-    ensures none { IsNone result ↔ IsSome (refusal6 packet.old) }
-    ensures head { IfSome result (λ parts. parts.front.now ≡ take 40 packet.old) }
-    ensures payload { IfSome result (λ parts. parts.rest.now ≡ drop 40 packet.old) }
-{
-    let Ok(_) = check6(packet) else {
-        return None;
-    };
-    let (front, rest) = packet.split_at_mut(40);
-    Some(Halves { front, rest })
 }
 
 impl Ipv6View<'_> {

@@ -1,24 +1,24 @@
--- The walk through `view4`: a refusal ends the bytes as they were, and otherwise the parts are lent.
-use Rattle.std.proofs.Common.{◌≡◌, ◌^◌, ℕ, ◌<◌, ◌≤◌, ◌↔◌, List, [], ◌∷◌, ◌++◌, true, false, refl, sym, ap, ◌∙◌, length, take, drop as drop_l, IsNone, IsSome, IfSome, IfOk, IfErr, OnOk, Option, Some, None, Err, Ok, lit<}
+-- The walk through `view4`: the bytes are lent to `check4`. A refusal leaves them as they were, and otherwise they are split three times.
+use Rattle.std.proofs.Common.{◌≡◌, ◌^◌, ◌-◌, ◌≤◌, ◌<◌, ℕ, List, [], ◌∷◌, ◌++◌, refl, sym, ap, ◌∙◌, length, take, drop as drop_l, IfOk, IfErr, OnOk, Some, None, Err, Ok, Result, lit<, subst, arith}
 use Rattle.std.proofs.raw_atomic.Walks.{proved}
+use Rattle.std.proofs.lemmas.List.{length-take-le}
+use base.Fraction.{full_share}
 use base.Logic.{id⊢, emp}
-use base.Fml.{Fml, fsep, feq, fex, fobs, ftrue, flft}
-use mir.Syntax.{named, w64}
-use mir.Val.{Val, WT, vint, of_list, vcons, vnil, vstruct}
+use base.Fml.{ftrue, flft}
+use mir.Syntax.{named}
+use mir.Val.{Val, WT, of_list, vcons, vnil, vstruct}
 use contract.Lifetimes.{Lfts}
 use contract.Monad.{fact, fact_i}
 use contract.Running.{tables}
-use denote.Array.{Array}
-use denote.Builtin.{u8, usize}
-use denote.Plain.{uint_Makes}
+use denote.Builtin.{u8}
 use denote.Enum.Enum.{in_a_row}
 use denote.Exit.{no}
-use denote.FollowSlice.{heres_id}
 use denote.Laws.{shows}
-use denote.RattleType.{RattleType, Denots, Valss, owns, flat}
+use denote.RattleType.{RattleType, Valss, owns}
+use denote.Ref.{as_bor}
 use denote.Signature.{plain, mut_slice_of, named_lft}
-use denote.Slice.{MutSlice, slice_val, mut_slice_vals, mut_slice_Tells}
-use denote.Steps.{nothing, owned, heard, peeks, only}
+use denote.Slice.{MutSlice, ShrSlice, slice_val, mut_slice_vals, mut_slice_Tells}
+use denote.Steps.{nothing, heard, peeks, only}
 use denote.Triple.Call.{calls_at}
 use denote.Triple.Clauses.{lasts}
 use denote.Triple.Spec.{triple_of}
@@ -26,32 +26,33 @@ use denote.Triple.Table.{framed}
 use denote.Triple.Walked.{Stays, walk_of, stay_dropped, Goes-spent_slice, ends_at}
 use native.Mathlib.Nat.{suc-ne-zero}
 use types.ByLocal.{alloc_all, pass_all, free_all, look_at, look_in_at, get, get_in, get_tag, sets, sets_last, lands_as, env}
-use types.Kit.{‵, raw, ◌⊛◌, some, later, at_ret, ◌$◌, ◌∵◌, !, qed, done, move, drop, use0, use1, use2, use3, split, split3, rewrite, fsplit, fsplit3, fpick, feq_l, feq_i, fjoin, fpack, join, pick, await, suffices}
+use types.Kit.{‵, raw, ◌⊛◌, some, given, later, at_ret, ◌$◌, ◌∵◌, !, qed, done, move, keep, drop, learn, use0, use1, use2, use3, split, split3, rewrite, fsplit, fpick, feq_l, feq_i, fjoin, fpack, join, pick, await, suffices}
 use types.Match.{live, vrt, in_variant, by_variants}
 use types.Part.{whole, sub, agg}
 use types.Run.{enter, of_opd, lit, addr, from, fld, hop, stop, no_more, and_then, returns, returns_within, first, exec}
-use types.Tokens.{name_done}
-use Rattle.std.specs.contracts.option.Option as O
-use Rattle.siit_model.specs.Ipv4.{ipv4_fields, is_bad_header4, is_short4, header_length_in}
+use types.Tokens.{lft_new, lft_end}
+use Rattle.std.specs.contracts.result.Result as Q
+use Rattle.siit_model.specs.Ipv4.{ipv4_fields, header_length_in, total_length_in}
+use Rattle.siit_rules.proofs.rule.Rule.TheLaws as L
 use Rattle.siit_rules.specs.contracts.rule.Rule as R
 use Rattle.siit_rules.specs.declared.rule.Rule.{Rule}
-use Rattle.siit_rules.specs.declared.rule.Rule.TheVariants.{Short4, BadHeader4}
-use Rattle.siit_views.specs.Headers.{refusal4, without_padding4}
-use Rattle.siit_views.specs.Parts.{LendsHalves, LendsHalvesIf, ends_as, lends_packet4}
+use Rattle.siit_views.specs.Headers.{refusal4, HasLengths4}
+use Rattle.siit_views.specs.Parts.{ends_as, lends_packet4}
 use Rattle.siit_views.specs.contracts.ipv4.Ipv4View as V
-use Rattle.siit_views.specs.contracts.parts.Halves as H
 use Rattle.siit_views.specs.declared.ipv4.Ipv4View.{Ipv4View}
-use Rattle.siit_views.specs.declared.parts.Halves.{Halves}
-use Rattle.siit_views.proofs.Lent.{at_none, at_some, joined, packet4}
-use Rattle.siit_views.proofs.Packets.{accepted4, all4, bad4, behind4, cases_of_option, fact_of, head4, long4, none4, options4, payload4, short4}
+use Rattle.siit_views.specs.contracts.header4.Lengths4 as N
+use Rattle.siit_views.specs.declared.header4.Lengths4.{Lengths4}
+use Rattle.siit_views.proofs.header4.Lengths4.TheLaws as L4
+use Rattle.siit_views.proofs.Lent.{packet4}
+use Rattle.siit_views.proofs.Packets.{front-front, front-rest}
+use Rattle.siit_views.proofs.Refused.{IsRefusal, refusal, opened, closed, tagged, fields}
+use Rattle.siit_views.proofs.Shared.{kept, read, back, left}
+use Rattle.siit_views.proofs.Splits.{splitting, passed, takes, given_back, gives}
 use Rattle.siit_views.specs.contracts.ipv4.view4 as f
 use Rattle.siit_views.proofs.ipv4.view4.Statement.{statement}
 use Rattle.siit_views.proofs.ipv4.view4.Code as code
-use Rattle.siit_views.specs.contracts.ipv4.packet_of4 as g
-use Rattle.siit_views.proofs.ipv4.packet_of4.Met as met-g
-use Rattle.siit_views.specs.contracts.ipv4.header_of4 as h
-use Rattle.siit_views.proofs.ipv4.header_of4.Met as met-h
-use Rattle.siit_views.specs.contracts.parts.split_parts as s
+use Rattle.siit_views.specs.contracts.header4.check4 as g
+use Rattle.siit_views.proofs.header4.check4.Met as met-g
 use Rattle.siit_views.proofs.parts.split_parts.Met as met-s
 
 abbrev stayed : Stays f.ended.signature.params f.ended.kept
@@ -60,19 +61,12 @@ stayed = (stay_dropped (mut_slice_of (0 ∷ []) tt (plain (λ _. u8))) no, tt)
 abbrev Slice : Lfts 1 → RattleType
 Slice κs = MutSlice (named 0) κs.0 u8
 
-abbrev Half : Lfts 1 → RattleType
-Half κs = H.the_row (named_lft 1 0 tt κs)
-
 abbrev View : Lfts 1 → RattleType
 View κs = V.the_row (named_lft 1 0 tt κs)
 
--- what a value of variant k owns, whose fields are the rows Ts
-abbrev tagged : ℕ → (Ts : List RattleType) → Denots Ts → List Val → List Val → Fml
-tagged k Ts x vs us = fsep (feq (List Val) vs (live k (of_list us) ∷ [])) (fex (Valss Ts) (in_a_row Ts (owns Ts x) us))
-
--- what a struct of these fields owns
-abbrev fields : (Ts : List RattleType) → Denots Ts → List Val → Valss Ts → Fml
-fields Ts d vs vss = fsep (feq (List Val) vs (vstruct (of_list (flat Ts vss)) ∷ [])) (owns Ts d vss)
+cases_of_result : {Goal : Type 1} (u : Result Lengths4 Rule) → ((lengths : Lengths4) → u ≡ Ok lengths → Goal) → ((rule : Rule) → u ≡ Err rule → Goal) → Goal
+cases_of_result (Ok lengths) ok err = ok lengths refl
+cases_of_result (Err rule) ok err = err rule refl
 
 pub view4_spec : {M : Type 1} → statement M
 view4_spec 𝓤 𝓛 𝓜 𝓡 wired =
@@ -80,204 +74,142 @@ view4_spec 𝓤 𝓛 𝓜 𝓡 wired =
     proved 𝓛 f.ended stayed c 𝓜 𝓡 (Goes-spent_slice 𝓛 1 (0 ∷ []) tt (plain (λ _. u8)), tt)
     f.Key.name code.function (code.unfolded 𝓤 𝓛.H 𝓜 𝓡 wired)
     (λ κs. (mut_slice_vals, tt)) (λ κs. (mut_slice_Tells (named 0) κs.0 u8, tt)) (λ κs qs bounds a n are.
-    let bytes = a.0.now in let fn : length bytes < 2 ^ 64 = are.0.0.1.0 in
-    let G = triple_of 𝓛 g.signature (g.spec 𝓛 𝓜.mem 𝓡.returns) in
-    let y : G.Ghost = ((κs, qs, bounds, a, (mut_slice_vals a.0, tt)), tt) in
-    let G' = triple_of 𝓛 h.signature (h.spec 𝓛 𝓜.mem 𝓡.returns) in
-    let G'' = triple_of 𝓛 s.signature (s.spec 𝓛 𝓜.mem 𝓡.returns) in
-    qed 𝓛 (raw (G.pre y) ∷ []) ∵ enter ! _ _ _ _ _ $
-    alloc_all ! (λ l. pass_all ! refl ((tt, (tt, (record { fits = fn }, tt))), tt) $
+    let r = a.0 in let bytes = r.now in let fn : length bytes < 2 ^ 64 = are.0.0.1.0 in
+    let y : W.Ghost = ((κs, qs, bounds, a, (mut_slice_vals a.0, tt)), tt) in
+    let framed_by = framed 𝓤 𝓛.H 𝓜 𝓣 in let G = triple_of 𝓛 g.signature (g.spec 𝓛 𝓜.mem 𝓡.returns) in
+    let S = splitting 𝓛 𝓜 𝓡 in let ask = passed 𝓛 𝓜 𝓡 κs qs bounds in let split_met = met-s.met 𝓤 𝓛 𝓜 𝓡 (code.calls-siit_views::parts::split_parts 𝓡.env wired) in
+    let asks = takes 𝓛 𝓜 𝓡 κs qs bounds in let got = given_back 𝓛 𝓜 𝓡 κs qs bounds in let gets = gives 𝓛 𝓜 𝓡 κs qs bounds in
+    qed 𝓛 (((‵ (flft κs.0 qs.0) ⊛ ‵ ftrue) ⊛ ‵ ((Slice κs).own_val r (mut_slice_vals r)) ⊛ ‵ ftrue) ∷ ‵ ftrue ∷ []) ∵
+    split ! $ split ! $ move ! (2 ∷ []) $ split ! $ keep ! (0 ∷ 2 ∷ []) $
+    enter ! _ _ _ _ _ $ alloc_all ! (λ l. pass_all ! refl ((tt, (tt, (record { fits = fn }, tt))), tt) $
+    -- [the bytes; the token]
     sets ! (addr ! (from ! (fld ! refl (hop ! (look_in_at ! 1 (sub ! 0 refl (whole !))) (stop !))))) refl (tt, tt) $
     sets ! (agg ! (and_then ! (get ! refl) (and_then ! (get_in ! (fld ! refl (stop !)) (sub ! 1 refl (whole !))) (no_more !)))) refl (tt, (tt, (record { fits = fn }, tt))) $
-    calls_at ! (framed 𝓤 𝓛.H 𝓜 (tables 𝓤 𝓛.H 𝓜 𝓡 𝓡.env)) G (met-g.met 𝓤 𝓛 𝓜 𝓡 (code.calls-siit_views::ipv4::packet_of4 𝓡.env wired)) y
+    lft_new ! tt (λ α. let κ = α ∷ [] in move ! (1 ∷ 2 ∷ []) $
+    use2 𝓛 (later (‵ ((ShrSlice (named 0) κ u8).own_val (as_bor r) (mut_slice_vals r)) ⊛ kept 𝓛 κs.0 κ qs.0 r)) (read 𝓛 κs.0 κ qs.0 r) $ await ! tt $ split ! $
+    -- [the bytes, shared; what is kept of them; the token of α]
+    let z : G.Ghost = (((κ, tt), (full_share, tt), tt, (as_bor r, tt), (mut_slice_vals r, tt)), tt) in
+    nothing ! $ move ! (1 ∷ 0 ∷ []) $ join ! $ nothing ! $ move ! (3 ∷ 0 ∷ []) $ join ! $ join ! $
+    nothing ! $ move ! (1 ∷ 0 ∷ []) $ use2 𝓛 (raw (G.pre z)) (id⊢ 𝓤 _) $
+    calls_at ! framed_by G (met-g.met 𝓤 𝓛 𝓜 𝓡 (code.calls-siit_views::header4::check4 𝓡.env wired)) z
     (and_then ! (get ! refl) (no_more !)) (λ v.
-    use1 𝓛 (later (some (λ (r : Option Halves). ((‵ (flft κs.0 qs.0) ⊛ ‵ ftrue) ⊛ ‵ ((O.the_row (Half κs)).own_val r (v ∷ []))) ⊛
-    some (λ (ws : Unit {0} × Unit {0}). ‵ (lasts g.ended κs a ws) ⊛ ‵ (LendsHalvesIf a.0 r) ⊛ raw (fact 𝓤 (IsNone r ↔ (is_short4 bytes ≡ true)))
-    ⊛ raw (fact 𝓤 (IfSome r (λ p. p.front.now ≡ without_padding4 bytes))) ⊛ raw (fact 𝓤 (IfSome r (λ p. p.rest.now ≡ drop_l (length (without_padding4 bytes)) bytes))))))) (id⊢ 𝓤 _) $
-    await ! tt $ pick ! (λ r. split ! $ split ! $ move ! (2 ∷ []) $ pick ! (λ ws. split ! $ drop ! $ split ! $ move ! (1 ∷ []) $ split3 ! $ heard ! _ (λ none. heard ! _ (λ packet. heard ! _ (λ padding.
-    -- [the loan; the tokens; the result]
-    cases_of_option r
-    (λ e.
-    rewrite ! 2 (λ (x : Option Halves). ‵ ((O.the_row (Half κs)).own_val x (v ∷ []))) e refl $ rewrite ! 0 (λ (x : Option Halves). ‵ (LendsHalvesIf a.0 x)) e refl $ move ! (2 ∷ []) $
-    fpick ! (λ us. fsplit ! $ feq_l ! (λ ev. fpick ! (λ vss. fsplit ! $ feq_l ! (λ eu. drop ! $
-    lands_as ! (ap only ev ∙ ap (λ (ws : List Val). live 0 (of_list ws)) eu) refl (tt, (record { fits = lit< tt }, tt)) $
+    use1 𝓛 (later (some (λ (u : Result Lengths4 Rule). ((‵ (flft κ full_share) ⊛ ‵ ftrue) ⊛ ‵ ((Q.the_row N.the_row R.the_row).own_val u (v ∷ []))) ⊛
+    some (λ (ws : Unit {0} × Unit {0}). ‵ (lasts g.ended z.0.0 z.0.3 ws) ⊛ raw (fact 𝓤 (IfErr u (λ rule. refusal4 bytes ≡ Some rule)))
+    ⊛ raw (fact 𝓤 (OnOk u (refusal4 bytes ≡ None))) ⊛ raw (fact 𝓤 (OnOk u (HasLengths4 bytes))) ⊛ raw (fact 𝓤 (IfOk u (λ lengths. lengths.header ≡ header_length_in bytes))) ⊛ raw (fact 𝓤 (IfOk u (λ lengths. lengths.total ≡ total_length_in bytes))))))) (id⊢ 𝓤 _) $
+    await ! tt $ pick ! (λ u. split ! $ split ! $ split ! $ lft_end ! tt $ move ! (0 ∷ 4 ∷ []) $
+    use2 𝓛 (later (‵ ((Slice κs).own_val r (mut_slice_vals r)) ⊛ ‵ (flft κs.0 qs.0))) (back 𝓛 κs.0 κ qs.0 r) $ await ! tt $ split ! $ move ! (2 ∷ []) $ drop ! $
+    move ! (3 ∷ []) $ pick ! (λ ws. split ! $ drop ! $ split ! $ heard ! _ (λ refused. split ! $ heard ! _ (λ accepted. split3 ! $ heard ! _ (λ fit. heard ! _ (λ is_header. heard ! _ (λ is_total.
+    -- [the bytes; the token; the result]
+    cases_of_result u
+    (λ lengths e.
+    let fit : HasLengths4 bytes = subst (λ (x : Result Lengths4 Rule). OnOk x (HasLengths4 bytes)) e fit in
+    let is_header : lengths.header ≡ header_length_in bytes = subst (λ (x : Result Lengths4 Rule). IfOk x (λ t. t.header ≡ header_length_in bytes)) e is_header in
+    let is_total : lengths.total ≡ total_length_in bytes = subst (λ (x : Result Lengths4 Rule). IfOk x (λ t. t.total ≡ total_length_in bytes)) e is_total in
+    let accepted : refusal4 bytes ≡ None = subst (λ (x : Result Lengths4 Rule). OnOk x (refusal4 bytes ≡ None)) e accepted in
+    let least : 20 ≤ lengths.header = omega (arith, is_header, fit.header) in
+    let ordered : lengths.header ≤ lengths.total = omega (arith, is_header, is_total, fit.total) in
+    let inside : lengths.total ≤ length bytes = omega (arith, is_total, fit.fits) in
+    let small_total : lengths.total < 2 ^ 64 = omega (arith, inside, fn) in
+    let small_header : lengths.header < 2 ^ 64 = omega (arith, ordered, small_total) in
+    let wl : WT (L4.lowered lengths) = ((record { fits = small_header }), ((record { fits = small_total }), tt)) in
+    let in_packet : (p : List ℕ) → p ≡ take lengths.total bytes → lengths.header ≤ length p = λ p is_p. omega (arith, ap length is_p, length-take-le lengths.total bytes inside) in
+    let in_header : (p q : List ℕ) → p ≡ take lengths.total bytes → q ≡ take lengths.header p → 20 ≤ length q = λ p q is_p is_q. omega (arith, ap length is_q, length-take-le lengths.header p (in_packet p is_p)) in
+    rewrite ! 2 (λ (x : Result Lengths4 Rule). ‵ ((Q.the_row N.the_row R.the_row).own_val x (v ∷ []))) e refl $ move ! (2 ∷ []) $
+    fpick ! (λ us. fsplit ! $ feq_l ! (λ ev. fpick ! (λ vss. fsplit ! $ feq_l ! (λ eu. fsplit ! $ move ! (1 ∷ []) $ drop ! $
+    peeks ! N.the_row _ (shows 𝓛 N.the_row) lengths vss.0 (λ is. drop ! $
+    lands_as ! (ap only ev ∙ ap (λ (ws : List Val). live 0 (of_list ws)) (eu ∙ ap (λ (ws : List Val). ws ++ []) (L4.lowers.val_is lengths vss.0 is))) refl (tt, (record { fits = lit< tt }, (wl, tt))) $
     first ! $ by_variants ! 34 (whole !) (get_tag ! (vrt ! refl (fld ! refl (stop !))) (whole !)) tt (
-      (λ k. absurd (suc-ne-zero 0 (sym k))),
+      (λ k.
+          sets ! (of_opd ! (get_in ! (vrt ! refl (fld ! refl (stop !))) (in_variant ! 0 0 refl refl (whole !)))) refl (tt, wl) $
+          sets_last ! (of_opd ! (get ! refl)) refl (tt, wl) $
+          exec ! 𝓣.C 𝓣.Λ (env (code.function).locals l) code.Mir.t-5 (at_ret (env (code.function).locals l) (W.post y)) $
+          sets ! (of_opd ! (get ! refl)) refl (tt, wl) $
+          -- the packet, and what is behind it
+          sets ! (addr ! (from ! (fld ! refl (hop ! (look_in_at ! 1 (sub ! 0 refl (whole !))) (stop !))))) refl (tt, tt) $
+          sets ! (agg ! (and_then ! (get ! refl) (and_then ! (get_in ! (fld ! refl (stop !)) (sub ! 1 refl (whole !))) (no_more !)))) refl (tt, (tt, (record { fits = fn }, tt))) $
+          use2 𝓛 (raw (S.pre (ask r lengths.total))) (asks r lengths.total inside small_total) $
+          calls_at ! framed_by S split_met (ask r lengths.total)
+          (and_then ! (get ! refl) (and_then ! (get_in ! (fld ! refl (stop !)) (sub ! 1 refl (whole !))) (no_more !))) (λ v₁.
+          use1 𝓛 (got r lengths.total v₁) (gets r lengths.total v₁) $ await ! tt $ pick ! (λ p. learn ! (λ at_p. split ! $ move ! (1 ∷ []) $ split3 ! $
+          lands_as ! at_p.is refl (tt, ((tt, (record { fits = at_p.front_fits }, tt)), ((tt, (record { fits = at_p.rest_fits }, tt)), tt))) $
+          use1 𝓛 (later (‵ (ends_as p.rest.ghost_name p.rest.now))) (left 𝓛 κs.0 p.rest) $ await ! tt $
+          -- [what is behind; the loan; the token; the packet]
+          sets ! (addr ! (from ! (fld ! refl (fld ! refl (hop ! (look_in_at ! 5 (sub ! 0 refl (sub ! 0 refl (whole !)))) (stop !)))))) refl (tt, tt) $
+          sets ! (agg ! (and_then ! (get ! refl) (and_then ! (get_in ! (fld ! refl (fld ! refl (stop !))) (sub ! 1 refl (sub ! 0 refl (whole !)))) (no_more !)))) refl (tt, (tt, (record { fits = at_p.front_fits }, tt))) $
+          move ! (3 ∷ 2 ∷ []) $ use2 𝓛 (raw (S.pre (ask p.front lengths.header))) (asks p.front lengths.header (in_packet p.front.now at_p.front) small_header) $
+          calls_at ! framed_by S split_met (ask p.front lengths.header)
+          (and_then ! (get ! refl) (and_then ! (get_in ! (fld ! refl (stop !)) (sub ! 0 refl (whole !))) (no_more !))) (λ v₂.
+          use1 𝓛 (got p.front lengths.header v₂) (gets p.front lengths.header v₂) $ await ! tt $ pick ! (λ w. learn ! (λ at_w. split ! $ move ! (1 ∷ []) $ split3 ! $
+          -- [the payload; the packet's loan; the token; the header; what is behind; the loan]
+          lands_as ! at_w.is refl (tt, ((tt, (record { fits = at_w.front_fits }, tt)), ((tt, (record { fits = at_w.rest_fits }, tt)), tt))) $
+          sets ! (addr ! (from ! (fld ! refl (fld ! refl (hop ! (look_in_at ! 6 (sub ! 0 refl (sub ! 0 refl (whole !)))) (stop !)))))) refl (tt, tt) $
+          sets ! (agg ! (and_then ! (get ! refl) (and_then ! (get_in ! (fld ! refl (fld ! refl (stop !))) (sub ! 1 refl (sub ! 0 refl (whole !)))) (no_more !)))) refl (tt, (tt, (record { fits = at_w.front_fits }, tt))) $
+          move ! (3 ∷ 2 ∷ []) $ use2 𝓛 (raw (S.pre (ask w.front 20))) (asks w.front 20 (in_header p.front.now w.front.now at_p.front at_w.front) (lit< tt)) $
+          calls_at ! framed_by S split_met (ask w.front 20)
+          (and_then ! (get ! refl) (and_then ! (lit ! tt) (no_more !))) (λ v₃.
+          use1 𝓛 (got w.front 20 v₃) (gets w.front 20 v₃) $ await ! tt $ pick ! (λ h. learn ! (λ at_h. split ! $ move ! (1 ∷ []) $ split3 ! $
+          -- [the options; the header's loan; the token; the head; the payload; the packet's loan; what is behind; the loan]
+          lands_as ! at_h.is refl (tt, ((tt, (record { fits = at_h.front_fits }, tt)), ((tt, (record { fits = at_h.rest_fits }, tt)), tt))) $
+          sets ! (addr ! (from ! (fld ! refl (fld ! refl (hop ! (look_in_at ! 7 (sub ! 0 refl (sub ! 0 refl (whole !)))) (stop !)))))) refl (tt, tt) $
+          sets ! (agg ! (and_then ! (get ! refl) (and_then ! (get_in ! (fld ! refl (fld ! refl (stop !))) (sub ! 1 refl (sub ! 0 refl (whole !)))) (no_more !)))) refl (tt, (tt, (record { fits = at_h.front_fits }, tt))) $
+          sets ! (addr ! (from ! (fld ! refl (fld ! refl (hop ! (look_in_at ! 7 (sub ! 0 refl (sub ! 1 refl (whole !)))) (stop !)))))) refl (tt, tt) $
+          sets ! (agg ! (and_then ! (get ! refl) (and_then ! (get_in ! (fld ! refl (fld ! refl (stop !))) (sub ! 1 refl (sub ! 1 refl (whole !)))) (no_more !)))) refl (tt, (tt, (record { fits = at_h.rest_fits }, tt))) $
+          sets ! (addr ! (from ! (fld ! refl (fld ! refl (hop ! (look_in_at ! 6 (sub ! 0 refl (sub ! 1 refl (whole !)))) (stop !)))))) refl (tt, tt) $
+          sets ! (agg ! (and_then ! (get ! refl) (and_then ! (get_in ! (fld ! refl (fld ! refl (stop !))) (sub ! 1 refl (sub ! 1 refl (whole !)))) (no_more !)))) refl (tt, (tt, (record { fits = at_w.rest_fits }, tt))) $
+          let out : Ipv4View = record { head = h.front; options = h.rest; payload = w.rest } in
+          let hv : Val = slice_val h.front.ref_ptr (length h.front.now) in let ov : Val = slice_val h.rest.ref_ptr (length h.rest.now) in let pv : Val = slice_val w.rest.ref_ptr (length w.rest.now) in
+          let x : Val = vstruct (vcons hv (vcons ov (vcons pv vnil))) in
+          let wx : WT x = ((tt, (record { fits = at_h.front_fits }, tt)), ((tt, (record { fits = at_h.rest_fits }, tt)), ((tt, (record { fits = at_w.rest_fits }, tt)), tt))) in
+          let o : Val = live 0 (vcons x vnil) in
+          let Ts : List RattleType = Slice κs ∷ Slice κs ∷ Slice κs ∷ [] in
+          sets ! (agg ! (and_then ! (get ! refl) (and_then ! (get ! refl) (and_then ! (get ! refl) (no_more !))))) refl (tt, wx) $
+          sets ! (agg ! (and_then ! (lit ! tt) (and_then ! (get ! refl) (no_more !)))) refl (tt, (record { fits = lit< tt }, (wx, tt))) $
+          returns ! (look_at ! 0 refl) $ free_all ! refl $
+          suffices ! _ (ends_at 𝓛 f.ended stayed c y o (Ok out) (tt, tt) (tt, tt)) $
+          rewrite ! 6 (λ (ys : List ℕ). ‵ (ends_as p.rest.ghost_name ys)) (at_p.rest ∙ ap (λ (k : ℕ). drop_l k bytes) is_total) refl $
+          move ! (7 ∷ 6 ∷ 5 ∷ 1 ∷ []) $ join ! $ use3 𝓛 (‵ (lends_packet4 r out)) (packet4 𝓛 r p.front.ghost_name p.rest.ghost_name w.front.ghost_name out) $
+          let is_w = front-front bytes p.front.now w.front.now lengths.header lengths.total at_p.front at_w.front ordered in
+          use0 𝓛 (raw (fact 𝓤 (IfOk {E = Rule} (Ok out) (λ (z : Ipv4View). z.payload.now ≡ (ipv4_fields bytes).payload)))) (fact_i 𝓤 _ (emp 𝓤)
+          (front-rest bytes p.front.now w.rest.now lengths.header lengths.total at_p.front at_w.rest ordered
+          ∙ ap (λ (k : ℕ). take (lengths.total - k) (drop_l k bytes)) is_header ∙ ap (λ (k : ℕ). take (k - header_length_in bytes) (drop_l (header_length_in bytes) bytes)) is_total)) $
+          use0 𝓛 (raw (fact 𝓤 (IfOk {E = Rule} (Ok out) (λ (z : Ipv4View). z.options.now ≡ (ipv4_fields bytes).options)))) (fact_i 𝓤 _ (emp 𝓤)
+          (front-rest bytes w.front.now h.rest.now 20 lengths.header is_w at_h.rest least ∙ ap (λ (k : ℕ). take (k - 20) (drop_l 20 bytes)) is_header)) $ join ! $
+          use0 𝓛 (raw (fact 𝓤 (IfOk {E = Rule} (Ok out) (λ (z : Ipv4View). z.head.now ≡ take 20 bytes)))) (fact_i 𝓤 _ (emp 𝓤) (front-front bytes w.front.now h.front.now 20 lengths.header is_w at_h.front least)) $ join ! $
+          use0 𝓛 (raw (fact 𝓤 (OnOk {E = Rule} (Ok out) (refusal4 bytes ≡ None)))) (fact_i 𝓤 _ (emp 𝓤) accepted) $ join ! $
+          use0 𝓛 (raw (fact 𝓤 (IfErr {T = Ipv4View} (Ok out) (λ (z : Rule). refusal4 bytes ≡ Some z)))) (fact_i 𝓤 _ (emp 𝓤) tt) $ join ! $ move ! (1 ∷ 0 ∷ []) $ join ! $
+          -- [the clauses; the options; the token; the head; the payload]
+          move ! (4 ∷ 1 ∷ 3 ∷ []) $ nothing ! $ move ! (1 ∷ 0 ∷ []) $ fjoin ! $ move ! (1 ∷ 0 ∷ []) $ fjoin ! $ move ! (1 ∷ 0 ∷ []) $ fjoin ! $
+          feq_i ! (List Val) (x ∷ []) (x ∷ []) refl $ fjoin ! $ fpack ! (Valss Ts) (fields Ts (h.front, (h.rest, (w.rest, tt))) (x ∷ [])) (hv ∷ [], (ov ∷ [], (pv ∷ [], tt))) $
+          -- [the view; the clauses; the token]
+          nothing ! $ move ! (1 ∷ 0 ∷ []) $ fjoin ! $ feq_i ! (List Val) (x ∷ []) (x ∷ []) refl $ fjoin ! $
+          fpack ! (Valss (View κs ∷ [])) (in_a_row (View κs ∷ []) (owns (View κs ∷ []) (out, tt)) (x ∷ [])) (x ∷ [], tt) $
+          feq_i ! (List Val) (o ∷ []) (o ∷ []) refl $ fjoin ! $ fpack ! (List Val) (tagged 0 (View κs ∷ []) (out, tt) (o ∷ [])) (x ∷ []) $
+          nothing ! $ nothing ! $ fjoin ! $ join ! $ nothing ! $ move ! (3 ∷ 0 ∷ []) $ join ! $ join ! $ join ! $ done !)))))))))),
+      ((λ k. absurd (suc-ne-zero 0 (sym k))), tt),
+    )))))))
+    (λ rule e.
+    rewrite ! 2 (λ (x : Result Lengths4 Rule). ‵ ((Q.the_row N.the_row R.the_row).own_val x (v ∷ []))) e refl $
+    use1 𝓛 (later (‵ (ends_as r.ghost_name bytes))) (left 𝓛 κs.0 r) $ await ! tt $ move ! (2 ∷ []) $
+    use1 𝓛 (given (IsRefusal rule v) (‵ (R.the_row.own_val rule (L.lowered rule ∷ [])))) (opened 𝓛 N.the_row rule v) $ learn ! (λ is.
+    lands_as ! is.is refl (is.of_all, (record { fits = lit< tt }, (is.typed, tt))) $
+    first ! $ by_variants ! 35 (whole !) (get_tag ! (vrt ! refl (fld ! refl (stop !))) (whole !)) tt (
+      (λ k. absurd (suc-ne-zero 0 k)),
       (
         (λ k.
-            sets ! (agg ! (and_then ! (lit ! tt) (no_more !))) refl (tt, (record { fits = lit< tt }, tt)) $
-            sets ! (agg ! (and_then ! (lit ! tt) (and_then ! (get ! refl) (no_more !)))) refl (tt, (record { fits = lit< tt }, ((record { fits = lit< tt }, tt), tt))) $
+            sets ! (of_opd ! (get_in ! (vrt ! refl (fld ! refl (stop !))) (in_variant ! 1 0 refl refl (whole !)))) refl (is.of_rule, is.typed) $
+            sets ! (agg ! (and_then ! (lit ! tt) (and_then ! (get ! refl) (no_more !)))) refl (is.of_all, (record { fits = lit< tt }, (is.typed, tt))) $
             returns_within ! (W.post y) refl (look_at ! 0 refl) $ free_all ! refl $
-            use1 𝓛 (‵ (ends_as a.0.ghost_name bytes)) (at_none 𝓛 a.0) $
-            suffices ! _ (ends_at 𝓛 f.ended stayed c y (live 1 (vcons (live 2 vnil) vnil)) (Err Short4) (tt, tt) (tt, tt)) $
-            -- [the bytes as they were; the tokens]
-            use0 𝓛 (raw (fact 𝓤 (IfOk {E = Rule} (Err Short4) (λ (x : Ipv4View). x.payload.now ≡ (ipv4_fields bytes).payload)))) (fact_i 𝓤 _ (emp 𝓤) tt) $
-            use0 𝓛 (raw (fact 𝓤 (IfOk {E = Rule} (Err Short4) (λ (x : Ipv4View). x.options.now ≡ (ipv4_fields bytes).options)))) (fact_i 𝓤 _ (emp 𝓤) tt) $ join ! $
-            use0 𝓛 (raw (fact 𝓤 (IfOk {E = Rule} (Err Short4) (λ (x : Ipv4View). x.head.now ≡ take 20 bytes)))) (fact_i 𝓤 _ (emp 𝓤) tt) $ join ! $
-            use0 𝓛 (raw (fact 𝓤 (OnOk {T = Ipv4View} {E = Rule} (Err Short4) (refusal4 bytes ≡ None)))) (fact_i 𝓤 _ (emp 𝓤) tt) $ join ! $
-            use0 𝓛 (raw (fact 𝓤 (IfErr {T = Ipv4View} (Err Short4) (λ (x : Rule). refusal4 bytes ≡ Some x)))) (fact_i 𝓤 _ (emp 𝓤) (short4 bytes r e none)) $ join ! $ move ! (1 ∷ 0 ∷ []) $ join ! $
-            -- [the clauses; the tokens]
-            nothing ! $ feq_i ! (List Val) [] [] refl $ fjoin ! $ fpack ! (Valss []) (in_a_row [] (owns [] tt) []) tt $
-            feq_i ! (List Val) (live 2 vnil ∷ []) (live 2 vnil ∷ []) refl $ fjoin ! $ fpack ! (List Val) (tagged 2 [] tt (live 2 vnil ∷ [])) [] $
-            nothing ! $ move ! (1 ∷ 0 ∷ []) $ fjoin ! $ feq_i ! (List Val) (live 2 vnil ∷ []) (live 2 vnil ∷ []) refl $ fjoin ! $
-            fpack ! (Valss (R.the_row ∷ [])) (in_a_row (R.the_row ∷ []) (owns (R.the_row ∷ []) (Short4, tt)) (live 2 vnil ∷ [])) (live 2 vnil ∷ [], tt) $
-            feq_i ! (List Val) (live 1 (vcons (live 2 vnil) vnil) ∷ []) (live 1 (vcons (live 2 vnil) vnil) ∷ []) refl $ fjoin ! $
-            fpack ! (List Val) (tagged 1 (R.the_row ∷ []) (Short4, tt) (live 1 (vcons (live 2 vnil) vnil) ∷ [])) (live 2 vnil ∷ []) $
-            -- [the result; the clauses; the tokens]
-            nothing ! $ nothing ! $ fjoin ! $ join ! $ move ! (2 ∷ 0 ∷ []) $ join ! $ join ! $ done !),
+            suffices ! _ (ends_at 𝓛 f.ended stayed c y (refusal rule) (Err rule) (tt, tt) (tt, tt)) $
+            use1 𝓛 (‵ ((Q.the_row (View κs) R.the_row).own_val (Err rule) (refusal rule ∷ []))) (closed 𝓛 (View κs) rule) $
+            -- [the result; the bytes as they were; the token]
+            use0 𝓛 (raw (fact 𝓤 (IfOk {E = Rule} (Err rule) (λ (x : Ipv4View). x.payload.now ≡ (ipv4_fields bytes).payload)))) (fact_i 𝓤 _ (emp 𝓤) tt) $
+            use0 𝓛 (raw (fact 𝓤 (IfOk {E = Rule} (Err rule) (λ (x : Ipv4View). x.options.now ≡ (ipv4_fields bytes).options)))) (fact_i 𝓤 _ (emp 𝓤) tt) $ join ! $
+            use0 𝓛 (raw (fact 𝓤 (IfOk {E = Rule} (Err rule) (λ (x : Ipv4View). x.head.now ≡ take 20 bytes)))) (fact_i 𝓤 _ (emp 𝓤) tt) $ join ! $
+            use0 𝓛 (raw (fact 𝓤 (OnOk {T = Ipv4View} {E = Rule} (Err rule) (refusal4 bytes ≡ None)))) (fact_i 𝓤 _ (emp 𝓤) tt) $ join ! $
+            use0 𝓛 (raw (fact 𝓤 (IfErr {T = Ipv4View} (Err rule) (λ (x : Rule). refusal4 bytes ≡ Some x)))) (fact_i 𝓤 _ (emp 𝓤) (subst (λ (x : Result Lengths4 Rule). IfErr x (λ o. refusal4 bytes ≡ Some o)) e refused)) $ join ! $
+            move ! (2 ∷ 0 ∷ []) $ join ! $
+            -- [the clauses; the result; the token]
+            nothing ! $ nothing ! $ fjoin ! $ move ! (0 ∷ 2 ∷ []) $ join ! $ nothing ! $ move ! (3 ∷ 0 ∷ []) $ join ! $ join ! $ join ! $ done !),
         tt,
       ),
-    ))))))
-    (λ w e.
-    rewrite ! 2 (λ (x : Option Halves). ‵ ((O.the_row (Half κs)).own_val x (v ∷ []))) e refl $ rewrite ! 0 (λ (x : Option Halves). ‵ (LendsHalvesIf a.0 x)) e refl $ move ! (2 ∷ []) $
-    fpick ! (λ us. fsplit ! $ feq_l ! (λ ev. fpick ! (λ vss. fsplit ! $ feq_l ! (λ eu. fsplit ! $ move ! (1 ∷ []) $ drop ! $
-    peeks ! (Half κs) _ (shows 𝓛 (Half κs)) w vss.0 (λ is.
-    let fv : Val = slice_val w.front.ref_ptr (length w.front.now) in let rv : Val = slice_val w.rest.ref_ptr (length w.rest.now) in
-    let x : Val = vstruct (vcons fv (vcons rv vnil)) in
-    let is_x : vss.0 ≡ x ∷ [] =
-    is.1.0 ∙ ap (λ (hs : List Val). vstruct (of_list (hs ++ (is.0.1.0 ++ []))) ∷ []) is.1.1.0.0.0 ∙ ap (λ (q : List Val). vstruct (of_list ((fv ∷ []) ++ (q ++ []))) ∷ []) is.1.1.1.0.0.0 in
-    let wt : WT x = ((tt, (record { fits = is.1.1.0.0.1.0 }, tt)), ((tt, (record { fits = is.1.1.1.0.0.1.0 }, tt)), tt)) in
-    rewrite ! 0 (λ (vs : List Val). ‵ ((Half κs).own_val w vs)) is_x refl $
-    lands_as ! (ap only ev ∙ ap (λ (ws : List Val). live 1 (of_list ws)) (eu ∙ ap (λ (ws : List Val). ws ++ []) is_x)) refl (tt, (record { fits = lit< tt }, (wt, tt))) $
-    first ! $ by_variants ! 35 (whole !) (get_tag ! (vrt ! refl (fld ! refl (stop !))) (whole !)) tt (
-      (λ k.
-          let long : is_short4 bytes ≡ false = long4 bytes r w e none in
-          let front : w.front.now ≡ without_padding4 bytes = fact_of (λ (p : Halves) (b : List ℕ). p.front.now ≡ without_padding4 b) r w bytes e packet in
-          let rest : w.rest.now ≡ drop_l (length (without_padding4 bytes)) bytes = fact_of (λ (p : Halves) (b : List ℕ). p.rest.now ≡ drop_l (length (without_padding4 b)) b) r w bytes e padding in
-          sets_last ! (of_opd ! (get_in ! (vrt ! refl (fld ! refl (stop !))) (in_variant ! 1 0 refl refl (whole !)))) refl (tt, wt) $
-          exec ! 𝓣.C 𝓣.Λ (env (code.function).locals l) code.Mir.t-5 (at_ret (env (code.function).locals l) (W.post y)) $
-          -- [the two halves; the loan; the tokens]
-          fpick ! (λ hss. fsplit ! $ feq_l ! (λ _. fsplit ! $ peeks ! (Slice κs) _ (shows 𝓛 (Slice κs)) w.front hss.0 (λ ih.
-          move ! (1 ∷ []) $ fsplit ! $ peeks ! (Slice κs) _ (shows 𝓛 (Slice κs)) w.rest hss.1.0 (λ ir.
-          move ! (1 ∷ []) $ drop ! $
-          rewrite ! 1 (λ (vs : List Val). ‵ ((Slice κs).own_val w.front vs)) ih.0.0 refl $ rewrite ! 0 (λ (vs : List Val). ‵ ((Slice κs).own_val w.rest vs)) ir.0.0 refl $
-          -- what lies behind the packet is let go: its last value is what it was
-          fsplit3 ! $ fsplit ! $ feq_l ! (λ same. drop ! $ rewrite ! 0 (λ (ys : List ℕ). ‵ (fobs w.rest.ghost_name ((Array u8 0).coded.code ys))) (heres_id u8 w.rest.now) refl $ name_done ! tt $ move ! (1 ∷ []) $ drop ! $
-          -- [what is behind; the packet; the loan; the tokens]
-          sets ! (addr ! (from ! (fld ! refl (fld ! refl (hop ! (look_in_at ! 2 (sub ! 0 refl (sub ! 0 refl (whole !)))) (stop !)))))) refl (tt, tt) $
-          sets ! (agg ! (and_then ! (get ! refl) (and_then ! (get_in ! (fld ! refl (fld ! refl (stop !))) (sub ! 1 refl (sub ! 0 refl (whole !)))) (no_more !)))) refl (tt, (tt, (record { fits = ih.0.1.0 }, tt))) $
-          let y' : G'.Ghost = ((κs, qs, bounds, (w.front, tt), (mut_slice_vals w.front, tt)), tt) in
-          move ! (1 ∷ []) $ nothing ! $ move ! (1 ∷ 0 ∷ []) $ join ! $ move ! (3 ∷ 0 ∷ []) $ join ! $ nothing ! $ move ! (1 ∷ 0 ∷ []) $ use2 𝓛 (raw (G'.pre y')) (id⊢ 𝓤 _) $
-          calls_at ! (framed 𝓤 𝓛.H 𝓜 (tables 𝓤 𝓛.H 𝓜 𝓡 𝓡.env)) G' (met-h.met 𝓤 𝓛 𝓜 𝓡 (code.calls-siit_views::ipv4::header_of4 𝓡.env wired)) y'
-          (and_then ! (get ! refl) (no_more !)) (λ v'.
-          use1 𝓛 (later (some (λ (r' : Option Halves). ((‵ (flft κs.0 qs.0) ⊛ ‵ ftrue) ⊛ ‵ ((O.the_row (Half κs)).own_val r' (v' ∷ []))) ⊛
-          some (λ (ws : Unit {0} × Unit {0}). ‵ (lasts h.ended κs (w.front, tt) ws) ⊛ ‵ (LendsHalvesIf w.front r') ⊛ raw (fact 𝓤 (IsNone r' ↔ IsSome (refusal4 w.front.now)))
-          ⊛ raw (fact 𝓤 (IfSome r' (λ p. 20 ≤ length p.front.now))) ⊛ raw (fact 𝓤 (IfSome r' (λ p. p.front.now ≡ take (header_length_in w.front.now) w.front.now))) ⊛ raw (fact 𝓤 (IfSome r' (λ p. p.rest.now ≡ drop_l (header_length_in w.front.now) w.front.now))))))) (id⊢ 𝓤 _) $
-          await ! tt $ pick ! (λ r'. split ! $ split ! $ move ! (2 ∷ []) $ pick ! (λ ws'. split ! $ drop ! $ split ! $ move ! (1 ∷ []) $ split ! $ heard ! _ (λ none'. split3 ! $ heard ! _ (λ least. heard ! _ (λ header. heard ! _ (λ payload.
-          -- [the packet's loan; the tokens; the result; what is behind; the loan]
-          cases_of_option r'
-          (λ e'.
-          rewrite ! 2 (λ (z : Option Halves). ‵ ((O.the_row (Half κs)).own_val z (v' ∷ []))) e' refl $ rewrite ! 0 (λ (z : Option Halves). ‵ (LendsHalvesIf w.front z)) e' refl $ move ! (2 ∷ []) $
-          fpick ! (λ us'. fsplit ! $ feq_l ! (λ ev'. fpick ! (λ vss'. fsplit ! $ feq_l ! (λ eu'. drop ! $
-          lands_as ! (ap only ev' ∙ ap (λ (ws : List Val). live 0 (of_list ws)) eu') refl (tt, (record { fits = lit< tt }, tt)) $
-          first ! $ by_variants ! 28 (whole !) (get_tag ! (vrt ! refl (fld ! refl (stop !))) (whole !)) tt (
-            (λ k'. absurd (suc-ne-zero 0 (sym k'))),
-            (
-              (λ k'.
-                  let refused : refusal4 bytes ≡ Some BadHeader4 = bad4 bytes w.front.now r' long front e' none' in
-                  sets ! (agg ! (and_then ! (lit ! tt) (no_more !))) refl (tt, (record { fits = lit< tt }, tt)) $
-                  sets ! (agg ! (and_then ! (lit ! tt) (and_then ! (get ! refl) (no_more !)))) refl (tt, (record { fits = lit< tt }, ((record { fits = lit< tt }, tt), tt))) $
-                  returns_within ! (W.post y) refl (look_at ! 0 refl) $ free_all ! refl $
-                  use1 𝓛 (‵ (ends_as w.front.ghost_name w.front.now)) (at_none 𝓛 w.front) $
-                  move ! (3 ∷ []) $ use1 𝓛 (‵ (LendsHalves a.0 w)) (at_some 𝓛 a.0 w) $ move ! (1 ∷ 3 ∷ []) $ join ! $ use2 𝓛 (‵ (ends_as a.0.ghost_name (w.front.now ++ w.rest.now))) (joined 𝓛 a.0.ghost_name w.front.ghost_name w.rest.ghost_name w.front.now w.rest.now) $
-                  rewrite ! 0 (λ (ys : List ℕ). ‵ (ends_as a.0.ghost_name ys)) (ap (λ (ys : List ℕ). ys ++ w.rest.now) front ∙ ap (λ (ys : List ℕ). without_padding4 bytes ++ ys) rest ∙ all4 bytes long refused) refl $
-                  suffices ! _ (ends_at 𝓛 f.ended stayed c y (live 1 (vcons (live 3 vnil) vnil)) (Err BadHeader4) (tt, tt) (tt, tt)) $
-                  -- [the bytes as they were; the tokens]
-                  use0 𝓛 (raw (fact 𝓤 (IfOk {E = Rule} (Err BadHeader4) (λ (x : Ipv4View). x.payload.now ≡ (ipv4_fields bytes).payload)))) (fact_i 𝓤 _ (emp 𝓤) tt) $
-                  use0 𝓛 (raw (fact 𝓤 (IfOk {E = Rule} (Err BadHeader4) (λ (x : Ipv4View). x.options.now ≡ (ipv4_fields bytes).options)))) (fact_i 𝓤 _ (emp 𝓤) tt) $ join ! $
-                  use0 𝓛 (raw (fact 𝓤 (IfOk {E = Rule} (Err BadHeader4) (λ (x : Ipv4View). x.head.now ≡ take 20 bytes)))) (fact_i 𝓤 _ (emp 𝓤) tt) $ join ! $
-                  use0 𝓛 (raw (fact 𝓤 (OnOk {T = Ipv4View} {E = Rule} (Err BadHeader4) (refusal4 bytes ≡ None)))) (fact_i 𝓤 _ (emp 𝓤) tt) $ join ! $
-                  use0 𝓛 (raw (fact 𝓤 (IfErr {T = Ipv4View} (Err BadHeader4) (λ (x : Rule). refusal4 bytes ≡ Some x)))) (fact_i 𝓤 _ (emp 𝓤) refused) $ join ! $ move ! (1 ∷ 0 ∷ []) $ join ! $
-                  -- [the clauses; the tokens]
-                  nothing ! $ feq_i ! (List Val) [] [] refl $ fjoin ! $ fpack ! (Valss []) (in_a_row [] (owns [] tt) []) tt $
-                  feq_i ! (List Val) (live 3 vnil ∷ []) (live 3 vnil ∷ []) refl $ fjoin ! $ fpack ! (List Val) (tagged 3 [] tt (live 3 vnil ∷ [])) [] $
-                  nothing ! $ move ! (1 ∷ 0 ∷ []) $ fjoin ! $ feq_i ! (List Val) (live 3 vnil ∷ []) (live 3 vnil ∷ []) refl $ fjoin ! $
-                  fpack ! (Valss (R.the_row ∷ [])) (in_a_row (R.the_row ∷ []) (owns (R.the_row ∷ []) (BadHeader4, tt)) (live 3 vnil ∷ [])) (live 3 vnil ∷ [], tt) $
-                  feq_i ! (List Val) (live 1 (vcons (live 3 vnil) vnil) ∷ []) (live 1 (vcons (live 3 vnil) vnil) ∷ []) refl $ fjoin ! $
-                  fpack ! (List Val) (tagged 1 (R.the_row ∷ []) (BadHeader4, tt) (live 1 (vcons (live 3 vnil) vnil) ∷ [])) (live 3 vnil ∷ []) $
-                  -- [the result; the clauses; the tokens]
-                  nothing ! $ nothing ! $ fjoin ! $ join ! $ move ! (2 ∷ 0 ∷ []) $ join ! $ join ! $ done !),
-              tt,
-            ),
-          ))))))
-          (λ w' e'.
-          rewrite ! 2 (λ (z : Option Halves). ‵ ((O.the_row (Half κs)).own_val z (v' ∷ []))) e' refl $ rewrite ! 0 (λ (z : Option Halves). ‵ (LendsHalvesIf w.front z)) e' refl $ move ! (2 ∷ []) $
-          fpick ! (λ us'. fsplit ! $ feq_l ! (λ ev'. fpick ! (λ vss'. fsplit ! $ feq_l ! (λ eu'. fsplit ! $ move ! (1 ∷ []) $ drop ! $
-          peeks ! (Half κs) _ (shows 𝓛 (Half κs)) w' vss'.0 (λ is'.
-          let hv : Val = slice_val w'.front.ref_ptr (length w'.front.now) in let pv : Val = slice_val w'.rest.ref_ptr (length w'.rest.now) in
-          let x' : Val = vstruct (vcons hv (vcons pv vnil)) in
-          let is_x' : vss'.0 ≡ x' ∷ [] =
-          is'.1.0 ∙ ap (λ (hs : List Val). vstruct (of_list (hs ++ (is'.0.1.0 ++ []))) ∷ []) is'.1.1.0.0.0 ∙ ap (λ (q : List Val). vstruct (of_list ((hv ∷ []) ++ (q ++ []))) ∷ []) is'.1.1.1.0.0.0 in
-          let wt' : WT x' = ((tt, (record { fits = is'.1.1.0.0.1.0 }, tt)), ((tt, (record { fits = is'.1.1.1.0.0.1.0 }, tt)), tt)) in
-          rewrite ! 0 (λ (vs : List Val). ‵ ((Half κs).own_val w' vs)) is_x' refl $
-          lands_as ! (ap only ev' ∙ ap (λ (ws : List Val). live 1 (of_list ws)) (eu' ∙ ap (λ (ws : List Val). ws ++ []) is_x')) refl (tt, (record { fits = lit< tt }, (wt', tt))) $
-          first ! $ by_variants ! 29 (whole !) (get_tag ! (vrt ! refl (fld ! refl (stop !))) (whole !)) tt (
-            (λ k'.
-                let good : is_bad_header4 bytes ≡ false = accepted4 bytes w.front.now r' w' long front e' none' in
-                let enough : 20 ≤ length w'.front.now = fact_of (λ (p : Halves) (b : ℕ). b ≤ length p.front.now) r' w' 20 e' least in
-                let is_header : w'.front.now ≡ take (header_length_in w.front.now) w.front.now = fact_of (λ (p : Halves) (b : List ℕ). p.front.now ≡ take (header_length_in b) b) r' w' w.front.now e' header in
-                let is_payload : w'.rest.now ≡ drop_l (header_length_in w.front.now) w.front.now = fact_of (λ (p : Halves) (b : List ℕ). p.rest.now ≡ drop_l (header_length_in b) b) r' w' w.front.now e' payload in
-                sets_last ! (of_opd ! (get_in ! (vrt ! refl (fld ! refl (stop !))) (in_variant ! 1 0 refl refl (whole !)))) refl (tt, wt') $
-                exec ! 𝓣.C 𝓣.Λ (env (code.function).locals l) code.Mir.t-9 (at_ret (env (code.function).locals l) (W.post y)) $
-                fpick ! (λ hss'. fsplit ! $ feq_l ! (λ _. fsplit ! $ peeks ! (Slice κs) _ (shows 𝓛 (Slice κs)) w'.front hss'.0 (λ jh.
-                move ! (1 ∷ []) $ fsplit ! $ peeks ! (Slice κs) _ (shows 𝓛 (Slice κs)) w'.rest hss'.1.0 (λ jr.
-                move ! (1 ∷ []) $ drop ! $
-                rewrite ! 1 (λ (vs : List Val). ‵ ((Slice κs).own_val w'.front vs)) jh.0.0 refl $ rewrite ! 0 (λ (vs : List Val). ‵ ((Slice κs).own_val w'.rest vs)) jr.0.0 refl $
-                -- [the payload; the header; the packet's loan; the tokens; what is behind; the loan]
-                sets ! (addr ! (from ! (fld ! refl (fld ! refl (hop ! (look_in_at ! 3 (sub ! 0 refl (sub ! 0 refl (whole !)))) (stop !)))))) refl (tt, tt) $
-                sets ! (agg ! (and_then ! (get ! refl) (and_then ! (get_in ! (fld ! refl (fld ! refl (stop !))) (sub ! 1 refl (sub ! 0 refl (whole !)))) (no_more !)))) refl (tt, (tt, (record { fits = jh.0.1.0 }, tt))) $
-                let y'' : G''.Ghost = ((κs, qs, bounds, (w'.front, (20, tt)), (mut_slice_vals w'.front, (vint w64 20 ∷ [], tt))), tt) in
-                move ! (1 ∷ []) $ use0 𝓛 (raw (fact 𝓤 (20 ≤ length w'.front.now))) (fact_i 𝓤 _ (emp 𝓤) enough) $
-                nothing ! $ owned ! usize _ (uint_Makes 𝓛 w64) 20 _ (refl, lit< tt) $ join ! $ move ! (2 ∷ 0 ∷ []) $ join ! $ move ! (4 ∷ 0 ∷ []) $ join ! $ join ! $ use1 𝓛 (raw (G''.pre y'')) (id⊢ 𝓤 _) $
-                calls_at ! (framed 𝓤 𝓛.H 𝓜 (tables 𝓤 𝓛.H 𝓜 𝓡 𝓡.env)) G'' (met-s.met 𝓤 𝓛 𝓜 𝓡 (code.calls-siit_views::parts::split_parts 𝓡.env wired)) y''
-                (and_then ! (get ! refl) (and_then ! (lit ! tt) (no_more !))) (λ v''.
-                use1 𝓛 (later (some (λ (t : Halves). ((‵ (flft κs.0 qs.0) ⊛ ‵ ftrue) ⊛ ‵ ((Half κs).own_val t (v'' ∷ []))) ⊛
-                some (λ (ws : Unit {0} × (Unit {0} × Unit {0})). ‵ (lasts s.ended κs (w'.front, (20, tt)) ws) ⊛ ‵ (LendsHalves w'.front t)
-                ⊛ raw (fact 𝓤 (t.front.now ≡ take 20 w'.front.now)) ⊛ raw (fact 𝓤 (t.rest.now ≡ drop_l 20 w'.front.now)))))) (id⊢ 𝓤 _) $
-                await ! tt $ pick ! (λ t. split ! $ split ! $ move ! (2 ∷ []) $ pick ! (λ ws''. split ! $ drop ! $ split3 ! $ move ! (1 ∷ []) $ heard ! _ (λ is_head. move ! (1 ∷ []) $ heard ! _ (λ is_options.
-                -- [the header's loan; the tokens; its two parts; the payload; the packet's loan; what is behind; the loan]
-                move ! (2 ∷ []) $ fpick ! (λ uss. fsplit ! $ feq_l ! (λ ev''. fsplit ! $ peeks ! (Slice κs) _ (shows 𝓛 (Slice κs)) t.front uss.0 (λ kh.
-                move ! (1 ∷ []) $ fsplit ! $ peeks ! (Slice κs) _ (shows 𝓛 (Slice κs)) t.rest uss.1.0 (λ kr.
-                move ! (1 ∷ []) $ drop ! $
-                let tv : Val = slice_val t.front.ref_ptr (length t.front.now) in let ov : Val = slice_val t.rest.ref_ptr (length t.rest.now) in
-                rewrite ! 1 (λ (vs : List Val). ‵ ((Slice κs).own_val t.front vs)) kh.0.0 refl $ rewrite ! 0 (λ (vs : List Val). ‵ ((Slice κs).own_val t.rest vs)) kr.0.0 refl $
-                lands_as ! (ap only (ev'' ∙ ap (λ (hs : List Val). vstruct (of_list (hs ++ (uss.1.0 ++ []))) ∷ []) kh.0.0 ∙ ap (λ (q : List Val). vstruct (of_list ((tv ∷ []) ++ (q ++ []))) ∷ []) kr.0.0)) refl
-                (tt, ((tt, (record { fits = kh.0.1.0 }, tt)), ((tt, (record { fits = kr.0.1.0 }, tt)), tt))) $
-                -- [the options; the head; the header's loan; the tokens; the payload; the packet's loan; what is behind; the loan]
-                sets ! (addr ! (from ! (fld ! refl (fld ! refl (hop ! (look_in_at ! 4 (sub ! 0 refl (sub ! 0 refl (whole !)))) (stop !)))))) refl (tt, tt) $
-                sets ! (agg ! (and_then ! (get ! refl) (and_then ! (get_in ! (fld ! refl (fld ! refl (stop !))) (sub ! 1 refl (sub ! 0 refl (whole !)))) (no_more !)))) refl (tt, (tt, (record { fits = kh.0.1.0 }, tt))) $
-                sets ! (addr ! (from ! (fld ! refl (fld ! refl (hop ! (look_in_at ! 4 (sub ! 0 refl (sub ! 1 refl (whole !)))) (stop !)))))) refl (tt, tt) $
-                sets ! (agg ! (and_then ! (get ! refl) (and_then ! (get_in ! (fld ! refl (fld ! refl (stop !))) (sub ! 1 refl (sub ! 1 refl (whole !)))) (no_more !)))) refl (tt, (tt, (record { fits = kr.0.1.0 }, tt))) $
-                sets ! (addr ! (from ! (fld ! refl (fld ! refl (hop ! (look_in_at ! 3 (sub ! 0 refl (sub ! 1 refl (whole !)))) (stop !)))))) refl (tt, tt) $
-                sets ! (agg ! (and_then ! (get ! refl) (and_then ! (get_in ! (fld ! refl (fld ! refl (stop !))) (sub ! 1 refl (sub ! 1 refl (whole !)))) (no_more !)))) refl (tt, (tt, (record { fits = jr.0.1.0 }, tt))) $
-                let out : Ipv4View = record { head = t.front; options = t.rest; payload = w'.rest } in
-                let z : Val = vstruct (vcons tv (vcons ov (vcons pv vnil))) in
-                let wz : WT z = ((tt, (record { fits = kh.0.1.0 }, tt)), ((tt, (record { fits = kr.0.1.0 }, tt)), ((tt, (record { fits = jr.0.1.0 }, tt)), tt))) in
-                let o : Val = live 0 (vcons z vnil) in
-                let Ts : List RattleType = Slice κs ∷ Slice κs ∷ Slice κs ∷ [] in
-                sets ! (agg ! (and_then ! (get ! refl) (and_then ! (get ! refl) (and_then ! (get ! refl) (no_more !))))) refl (tt, wz) $
-                sets ! (agg ! (and_then ! (lit ! tt) (and_then ! (get ! refl) (no_more !)))) refl (tt, (record { fits = lit< tt }, (wz, tt))) $
-                returns ! (look_at ! 0 refl) $ free_all ! refl $
-                suffices ! _ (ends_at 𝓛 f.ended stayed c y o (Ok out) (tt, tt) (tt, tt)) $
-                move ! (5 ∷ []) $ use1 𝓛 (‵ (LendsHalves w.front w')) (at_some 𝓛 w.front w') $ move ! (7 ∷ []) $ use1 𝓛 (‵ (LendsHalves a.0 w)) (at_some 𝓛 a.0 w) $
-                -- [the loan; the packet's loan; the options; the head; the header's loan; the tokens; the payload; what is behind]
-                rewrite ! 7 (λ (ys : List ℕ). ‵ (ends_as w.rest.ghost_name ys)) (behind4 bytes w.rest.now long good rest) refl $ move ! (0 ∷ 7 ∷ 1 ∷ 4 ∷ []) $ join ! $
-                use3 𝓛 (‵ (lends_packet4 a.0 out)) (packet4 𝓛 a.0 w.front.ghost_name w.rest.ghost_name w'.front.ghost_name out) $
-                use0 𝓛 (raw (fact 𝓤 (IfOk {E = Rule} (Ok out) (λ (q : Ipv4View). q.payload.now ≡ (ipv4_fields bytes).payload)))) (fact_i 𝓤 _ (emp 𝓤) (payload4 bytes w.front.now w'.rest.now long good front is_payload)) $
-                use0 𝓛 (raw (fact 𝓤 (IfOk {E = Rule} (Ok out) (λ (q : Ipv4View). q.options.now ≡ (ipv4_fields bytes).options)))) (fact_i 𝓤 _ (emp 𝓤) (options4 bytes w.front.now w'.front.now t.rest.now long good front is_header is_options)) $ join ! $
-                use0 𝓛 (raw (fact 𝓤 (IfOk {E = Rule} (Ok out) (λ (q : Ipv4View). q.head.now ≡ take 20 bytes)))) (fact_i 𝓤 _ (emp 𝓤) (head4 bytes w.front.now w'.front.now t.front.now long good front is_header is_head)) $ join ! $
-                use0 𝓛 (raw (fact 𝓤 (OnOk {E = Rule} (Ok out) (refusal4 bytes ≡ None)))) (fact_i 𝓤 _ (emp 𝓤) (none4 bytes long good)) $ join ! $
-                use0 𝓛 (raw (fact 𝓤 (IfErr {T = Ipv4View} (Ok out) (λ (q : Rule). refusal4 bytes ≡ Some q)))) (fact_i 𝓤 _ (emp 𝓤) tt) $ join ! $ move ! (1 ∷ 0 ∷ []) $ join ! $
-                -- [the clauses; the options; the head; the tokens; the payload]
-                move ! (4 ∷ 1 ∷ 2 ∷ []) $ nothing ! $ move ! (1 ∷ 0 ∷ []) $ fjoin ! $ move ! (1 ∷ 0 ∷ []) $ fjoin ! $ move ! (1 ∷ 0 ∷ []) $ fjoin ! $
-                feq_i ! (List Val) (z ∷ []) (z ∷ []) refl $ fjoin ! $ fpack ! (Valss Ts) (fields Ts (t.front, (t.rest, (w'.rest, tt))) (z ∷ [])) (tv ∷ [], (ov ∷ [], (pv ∷ [], tt))) $
-                -- [the view; the clauses; the tokens]
-                nothing ! $ move ! (1 ∷ 0 ∷ []) $ fjoin ! $ feq_i ! (List Val) (z ∷ []) (z ∷ []) refl $ fjoin ! $
-                fpack ! (Valss (View κs ∷ [])) (in_a_row (View κs ∷ []) (owns (View κs ∷ []) (out, tt)) (z ∷ [])) (z ∷ [], tt) $
-                feq_i ! (List Val) (o ∷ []) (o ∷ []) refl $ fjoin ! $ fpack ! (List Val) (tagged 0 (View κs ∷ []) (out, tt) (o ∷ [])) (z ∷ []) $
-                nothing ! $ nothing ! $ fjoin ! $ join ! $ move ! (2 ∷ 0 ∷ []) $ join ! $ join ! $ done !)))))))))))))),
-            ((λ k'. absurd (suc-ne-zero 0 k')), tt),
-          )))))))
-          ))))))))))))),
-      ((λ k. absurd (suc-ne-zero 0 k)), tt),
-    )))))))))))))))
+    ))))))))))))))
