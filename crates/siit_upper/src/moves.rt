@@ -31,8 +31,8 @@ pub fn move_udp(part: &mut [u8], out_sum: u16, in_sum: u16)
     put16(part, 6, shift_udp(checksum, out_sum, in_sum));
 }
 
-/// Gives an ICMP echo message (RFC 792, RFC 4443 section 4) another type, and moves its checksum likewise, by the type too.
-/// ICMPv4 has no pseudo-header: its residue is 0.
+/// Gives an ICMP echo message (RFC 792, RFC 4443 section 4) another type, and moves its checksum likewise, by the type too. At
+/// least the type is in the part. ICMPv4 has no pseudo-header: its residue is 0.
 pub fn move_echo(part: &mut [u8], kind: u8, out_sum: u16, in_sum: u16)
     requires { 1 ≤ length part.old }
     ensures { part.new ≡ echo_moved kind out_sum in_sum part.old }
