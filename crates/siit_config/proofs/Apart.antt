@@ -5,7 +5,8 @@ use Rattle.std.proofs.lemmas.Bool.{and_parts, cases_Bool}
 use Rattle.std.proofs.lemmas.List.Kept.{AllPairs-cons}
 use Rattle.siit_addr.specs.declared.addr.Prefix6.{Prefix6}
 use Rattle.siit_eamt.specs.declared.entry.Eam.{Eam}
-use Rattle.siit_eamt.specs.Disjoint.{IsDisjoint, overlap, overlap4, overlap6}
+use Rattle.siit_addr.specs.Addresses.{overlap}
+use Rattle.siit_eamt.specs.Disjoint.{IsDisjoint, overlap4, overlap6}
 use Rattle.siit_config.specs.Devices.{are_apart, is_disjoint}
 
 not_true : (b : Bool) → not b ≡ true → b ≡ false

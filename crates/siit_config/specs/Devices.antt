@@ -7,7 +7,8 @@ use Rattle.siit_addr.specs.declared.addr.Prefix6.{Prefix6}
 use Rattle.siit_eamt.specs.declared.entry.Eam.{Eam}
 use Rattle.siit_eamt.specs.declared.entry.EamFault.{EamFault}
 use Rattle.siit_eamt.specs.Faults.{table_fault}
-use Rattle.siit_eamt.specs.Disjoint.{overlap, overlap4, overlap6}
+use Rattle.siit_addr.specs.Addresses.{overlap}
+use Rattle.siit_eamt.specs.Disjoint.{overlap4, overlap6}
 use Rattle.siit_map.specs.Mapping as mapping
 use Rattle.siit_roles.specs.declared.role.Role.{Role}
 use Rattle.siit_roles.specs.declared.role.Role.TheVariants.{Plain, Border, Edge, Customer}

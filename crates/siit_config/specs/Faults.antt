@@ -1,5 +1,5 @@
 -- The faults of a configuration, their keys as texts.
-use Rattle.std.specs.Prelude.{◌≡◌, ◌≢◌, ℕ, List, Option, Some, None, Result, Ok, Err}
+use Rattle.std.specs.Prelude.{◌≡◌, ◌≢◌, ℕ, List, Option, Some, None, IfSome, Result, Ok, Err}
 use Rattle.siit_eamt.specs.declared.entry.EamFault.{EamFault}
 use Rattle.siit_eamt.specs.declared.entry.EamFault.TheVariants as table_fault
 use Rattle.siit_config.specs.declared.fault.ConfigFault.{ConfigFault}
@@ -18,24 +18,28 @@ pub data Fault : Type 0 where
   eam : (device : ℕ) (fault : EamFault) → Fault
   not_symmetric : (device : ℕ) → Fault
 
--- The fault is told exactly. Want of memory tells nothing, and it is no fault of a table.
-abbrev pub Tells : {X : Type 0} → ConfigFault → Result X Fault → Type 0
-Tells NotToml r = r ≡ Err not_toml
-Tells (Missing device key) r = r ≡ Err (missing device key.bytes)
-Tells (WrongKind device key) r = r ≡ Err (wrong_kind device key.bytes)
-Tells (BadValue device key) r = r ≡ Err (bad_value device key.bytes)
-Tells (Unknown device key) r = r ≡ Err (unknown device key.bytes)
-Tells ChainLength r = r ≡ Err chain_length
-Tells (MtuOrder device) r = r ≡ Err (mtu_order device)
-Tells (BadEam device entry) r = r ≡ Err (bad_eam device entry)
-Tells (Eam device fault) r = (fault ≢ table_fault.NoMemory) × (r ≡ Err (eam device fault))
-Tells (NotSymmetric device) r = r ≡ Err (not_symmetric device)
-Tells NoMemory r = Unit {0}
+-- the fault of a text, none where memory was refused
+abbrev pub fault_of : ConfigFault → Option Fault
+fault_of NotToml = Some not_toml
+fault_of (Missing device key) = Some (missing device key.bytes)
+fault_of (WrongKind device key) = Some (wrong_kind device key.bytes)
+fault_of (BadValue device key) = Some (bad_value device key.bytes)
+fault_of (Unknown device key) = Some (unknown device key.bytes)
+fault_of ChainLength = Some chain_length
+fault_of (MtuOrder device) = Some (mtu_order device)
+fault_of (BadEam device entry) = Some (bad_eam device entry)
+fault_of (Eam device fault) = Some (eam device fault)
+fault_of (NotSymmetric device) = Some (not_symmetric device)
+fault_of NoMemory = None
 
 -- the fault of a table is none of memory
 abbrev pub IsNoTableMemory : ConfigFault → Type 0
 IsNoTableMemory (Eam device fault) = fault ≢ table_fault.NoMemory
 IsNoTableMemory _ = Unit {0}
+
+-- The fault is told exactly. Want of memory tells nothing, and it is no fault of a table.
+abbrev pub Tells : {X : Type 0} → ConfigFault → Result X Fault → Type 0
+Tells e r = IsNoTableMemory e × IfSome (fault_of e) (λ fault. r ≡ Err fault)
 
 -- the outcome of a call is the one that is told
 abbrev pub Gives : {X : Type 0} → Result X Fault → Result X ConfigFault → Type 0

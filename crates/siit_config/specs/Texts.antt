@@ -1,7 +1,7 @@
 -- The values that the texts of a configuration stand for.
-use Rattle.std.specs.Prelude.{◌≡◌, ℕ, ◌*◌, ◌^◌, ℤ, pos, negsuc, List, codes, Bool, true, false, not, ◌&&◌, ◌==◌, nat_le, if◌then◌else◌, Option, Some, None, option_map, option_and_then}
+use Rattle.std.specs.Prelude.{◌≡◌, ℕ, ℤ, pos, negsuc, List, codes, Bool, true, false, not, ◌&&◌, ◌==◌, nat_le, if◌then◌else◌, Option, Some, None, option_map, option_and_then}
 use Rattle.std.specs.Str.{bytes_eq}
-use Rattle.siit_addr.specs.Addresses.{is_clear_behind}
+use Rattle.siit_addr.specs.Addresses.{is_clear_behind, overlap}
 use Rattle.siit_addr.specs.Texts.{ipv4_of_text, ipv6_of_text, prefix4_of_text, prefix6_of_text, both_with}
 use Rattle.siit_addr.specs.declared.addr.Addr4.{Addr4}
 use Rattle.siit_addr.specs.declared.addr.Addr6.{Addr6}
@@ -9,8 +9,7 @@ use Rattle.siit_addr.specs.declared.addr.Prefix4.{Prefix4}
 use Rattle.siit_addr.specs.declared.addr.Prefix6.{Prefix6}
 use Rattle.siit_rules.specs.declared.rule.Family.{Family}
 use Rattle.siit_rules.specs.declared.rule.Family.TheVariants.{Four, Six}
-use Rattle.siit_rfc6052.specs.Embedding.{is_embedding_prefix}
-use Rattle.siit_eamt.specs.Disjoint.{overlap}
+use Rattle.siit_rfc6052.specs.Embedding.{is_embedding_prefix, is_well_known}
 use Rattle.siit_eamt.specs.declared.entry.Eam.{Eam}
 use Rattle.siit_roles.specs.declared.role.Role.{Role}
 use Rattle.siit_roles.specs.declared.role.Role.TheVariants.{Plain, Border, Edge, Customer}
@@ -79,10 +78,6 @@ clean_prefix_of text = option_and_then (only (λ p. is_clear_behind 32 p.len p.a
 -- a prefix under which addresses are embedded (RFC 6052 section 2.2)
 abbrev pub embedding_of : List ℕ → Option Prefix6
 embedding_of text = option_and_then (only (λ p. is_embedding_prefix p.len p.addr.0)) (prefix6_of text)
-
--- the well-known prefix 64:ff9b::/96 (RFC 6052 section 2.1)
-abbrev pub is_well_known : Prefix6 → Bool
-is_well_known p = (p.len == 96) && (p.addr.0 == 0x64ff9b * 2 ^ 96)
 
 -- a customer's prefix of local addresses, apart from the provider's
 abbrev pub is_local_to : Prefix6 → Prefix6 → Bool

@@ -11,7 +11,7 @@ ghost use Rattle.siit_config.specs.Texts.{family_of};
 use crate::arrays;
 use crate::device::devices_of;
 use crate::fault::ConfigFault;
-use crate::keys::{Keys, key_text};
+use crate::keys::Keys;
 use crate::unknown::no_others;
 use siit_roles::ChainSettings;
 use siit_rules::Family;
@@ -65,24 +65,15 @@ fn left(keys: &Keys) -> Result<Family, ConfigFault>
     ensures { Gives (key keys.now.device (table_view keys.now.table.now) as_integer family_of None (codes "left")) result }
 {
     let Some(value) = keys.value("left") else {
-        return Err(ConfigFault::Missing {
-            device: keys.device,
-            key: key_text("left"),
-        });
+        return Err(keys.missing("left"));
     };
     let Some(version) = value.as_integer() else {
-        return Err(ConfigFault::WrongKind {
-            device: keys.device,
-            key: key_text("left"),
-        });
+        return Err(keys.wrong_kind("left"));
     };
     match version {
         4 => Ok(Family::Four),
         6 => Ok(Family::Six),
-        _ => Err(ConfigFault::BadValue {
-            device: keys.device,
-            key: key_text("left"),
-        }),
+        _ => Err(keys.bad_value("left")),
     }
 }
 
@@ -92,18 +83,12 @@ fn tables<'a>(alloc: Global, keys: &Keys<'a>) -> Result<Vec<&'a Table>, ConfigFa
         MatchResult result (λ tables. told ≡ Ok (map (λ t. table_view t.now) tables.items)) (λ e. Tells e told) }
 {
     let Some(value) = keys.value("device") else {
-        return Err(ConfigFault::Missing {
-            device: keys.device,
-            key: key_text("device"),
-        });
+        return Err(keys.missing("device"));
     };
     if let Some(items) = value.as_array() {
         if let Some(tables) = arrays::tables(alloc, items)? {
             return Ok(tables);
         }
     }
-    Err(ConfigFault::WrongKind {
-        device: keys.device,
-        key: key_text("device"),
-    })
+    Err(keys.wrong_kind("device"))
 }

@@ -1,5 +1,5 @@
 //! The keys of a device.
-ghost use Rattle.std.specs.Prelude.{◌≡◌, ◌≤◌, Ok, false, IfOk, MatchResult, codes, length, option_map};
+ghost use Rattle.std.specs.Prelude.{◌≡◌, ◌≤◌, Ok, false, MatchResult, codes, length};
 ghost use Rattle.toml.specs.View.{table_view};
 ghost use Rattle.siit_config.specs.Devices.{eam_of, hairpin_of, local_of};
 ghost use Rattle.siit_config.specs.Faults.{Gives, Tells};
@@ -15,7 +15,7 @@ ghost use Rattle.siit_config.specs.Texts.{
 };
 
 use crate::fault::ConfigFault;
-use crate::keys::{Keys, key_text};
+use crate::keys::Keys;
 use crate::{arrays, names};
 use siit_addr::{Addr4, Addr6, Prefix4};
 use siit_eamt::Eam;
@@ -120,8 +120,5 @@ pub(crate) fn eam(alloc: Global, keys: &Keys, role: Role) -> Result<Vec<Option<E
             return Ok(entries);
         }
     }
-    Err(ConfigFault::WrongKind {
-        device: keys.device,
-        key: key_text("eam"),
-    })
+    Err(keys.wrong_kind("eam"))
 }

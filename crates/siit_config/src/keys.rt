@@ -2,7 +2,7 @@
 ghost use Rattle.std.specs.Prelude.{◌≡◌, ◌≤◌, IfOk, None, Some, Ok, MatchResult, length, option_copied, option_map};
 ghost use Rattle.toml.specs.Data.{as_str, get_member};
 ghost use Rattle.toml.specs.View.{table_view, view};
-ghost use Rattle.siit_config.specs.Faults.{Gives, Tells, or_fault, bad_value};
+ghost use Rattle.siit_config.specs.Faults.{Gives, Tells, fault_of, or_fault, missing, wrong_kind, bad_value};
 ghost use Rattle.siit_config.specs.Keys.{flag_or, key, number_or};
 
 use crate::fault::ConfigFault;
@@ -17,6 +17,39 @@ pub(crate) struct Keys<'a> {
 }
 
 impl<'a> Keys<'a> {
+    /// The fault that a key isn't there.
+    pub(crate) fn missing(&self, name: &str) -> ConfigFault
+        requires { length name.now ≤ 64 }
+        ensures { fault_of result ≡ Some (missing self.now.device name.now) }
+    {
+        ConfigFault::Missing {
+            device: self.device,
+            key: key_text(name),
+        }
+    }
+
+    /// The fault that a key's value is of another TOML type.
+    pub(crate) fn wrong_kind(&self, name: &str) -> ConfigFault
+        requires { length name.now ≤ 64 }
+        ensures { fault_of result ≡ Some (wrong_kind self.now.device name.now) }
+    {
+        ConfigFault::WrongKind {
+            device: self.device,
+            key: key_text(name),
+        }
+    }
+
+    /// The fault that a key's value isn't accepted.
+    pub(crate) fn bad_value(&self, name: &str) -> ConfigFault
+        requires { length name.now ≤ 64 }
+        ensures { fault_of result ≡ Some (bad_value self.now.device name.now) }
+    {
+        ConfigFault::BadValue {
+            device: self.device,
+            key: key_text(name),
+        }
+    }
+
     /// The value at a key.
     pub(crate) fn value(&self, name: &str) -> Option<&'a Value>
         ensures { option_map (λ v. view v.now) result ≡ get_member name.now (table_view self.now.table.now) }
@@ -30,18 +63,12 @@ impl<'a> Keys<'a> {
         ensures { let told = key self.now.device (table_view self.now.table.now) as_str (λ t. Some t) None name.now in
             MatchResult result (λ t. told ≡ Ok t.now) (λ e. Tells e told) }
     {
-        match self.value(name) {
-            None => Err(ConfigFault::Missing {
-                device: self.device,
-                key: key_text(name),
-            }),
-            Some(value) => match value.as_str() {
-                None => Err(ConfigFault::WrongKind {
-                    device: self.device,
-                    key: key_text(name),
-                }),
-                Some(text) => Ok(text),
-            },
+        let Some(value) = self.value(name) else {
+            return Err(self.missing(name));
+        };
+        match value.as_str() {
+            Some(text) => Ok(text),
+            None => Err(self.wrong_kind(name)),
         }
     }
 
@@ -51,15 +78,12 @@ impl<'a> Keys<'a> {
         ensures { let told = key self.now.device (table_view self.now.table.now) as_str (λ t. Some (Some t)) (Some None) name.now in
             MatchResult result (λ t. told ≡ Ok (option_copied t)) (λ e. Tells e told) }
     {
-        match self.value(name) {
-            None => Ok(None),
-            Some(value) => match value.as_str() {
-                None => Err(ConfigFault::WrongKind {
-                    device: self.device,
-                    key: key_text(name),
-                }),
-                Some(text) => Ok(Some(text)),
-            },
+        let Some(value) = self.value(name) else {
+            return Ok(None);
+        };
+        match value.as_str() {
+            Some(text) => Ok(Some(text)),
+            None => Err(self.wrong_kind(name)),
         }
     }
 
@@ -74,33 +98,25 @@ impl<'a> Keys<'a> {
             return Ok(default);
         };
         let Some(number) = value.as_integer() else {
-            return Err(ConfigFault::WrongKind {
-                device: self.device,
-                key: key_text(name),
-            });
+            return Err(self.wrong_kind(name));
         };
         match u16::try_from(number) {
             Ok(number) if low <= number => Ok(number),
-            _ => Err(ConfigFault::BadValue {
-                device: self.device,
-                key: key_text(name),
-            }),
+            _ => Err(self.bad_value(name)),
         }
     }
 
+    /// A boolean.
     pub(crate) fn flag(&self, name: &str, default: bool) -> Result<bool, ConfigFault>
         requires { length name.now ≤ 64 }
         ensures { Gives (flag_or self.now.device (table_view self.now.table.now) default name.now) result }
     {
-        match self.value(name) {
-            None => Ok(default),
-            Some(value) => match value.as_bool() {
-                None => Err(ConfigFault::WrongKind {
-                    device: self.device,
-                    key: key_text(name),
-                }),
-                Some(flag) => Ok(flag),
-            },
+        let Some(value) = self.value(name) else {
+            return Ok(default);
+        };
+        match value.as_bool() {
+            Some(flag) => Ok(flag),
+            None => Err(self.wrong_kind(name)),
         }
     }
 
@@ -110,11 +126,8 @@ impl<'a> Keys<'a> {
         ensures { Gives (or_fault (bad_value self.now.device name.now) value) result }
     {
         match value {
-            None => Err(ConfigFault::BadValue {
-                device: self.device,
-                key: key_text(name),
-            }),
             Some(value) => Ok(value),
+            None => Err(self.bad_value(name)),
         }
     }
 }

@@ -101,19 +101,7 @@ pub(crate) fn local_embedding_of(provider: &Embed, text: &str) -> Option<Embed>
 fn is_local_to(provider: &Embed, embed: &Embed) -> bool
     ensures { result ≡ is_local_to provider.now embed.now }
 {
-    !embed.is_well_known() && !overlap(embed.prefix(), provider.prefix())
-}
-
-ghost use Rattle.siit_eamt.specs.Disjoint.{overlap};
-
-fn overlap(p: Prefix6, q: Prefix6) -> bool
-    ensures { result ≡ overlap 128 p.len p.addr.0 q.len q.addr.0 }
-{
-    if p.len <= q.len {
-        p.holds(q.addr)
-    } else {
-        q.holds(p.addr)
-    }
+    !embed.is_well_known() && !embed.prefix().overlaps(&provider.prefix())
 }
 
 pub(crate) fn mapping_entry_of(first: &str, second: &str) -> Option<Eam>
