@@ -1,11 +1,11 @@
 -- What the status of `map` says.
-use Rattle.std.proofs.Common.{◌≡◌, ◌≢◌, ◌⊎◌, ℕ, ◌≤◌, ◌<◌, List, ◌++◌, length, Bool, true, false, nat_lt, Option, Some, None, Result, Ok, Err, IsTrue, inl, inr, refl, ap, sym, subst, ◌∙◌}
+use Rattle.std.proofs.Common.{◌≡◌, ◌≢◌, ◌⊎◌, ℕ, ◌≤◌, ◌<◌, List, ◌++◌, length, Bool, true, false, nat_lt, Option, Some, None, IfSome, Result, Ok, Err, IsTrue, inl, inr, refl, ap, sym, subst, ◌∙◌}
 use Rattle.std.specs.Prelude.{if◌then◌else◌}
 use Rattle.std.proofs.lemmas.Bool.{lt-ltb}
 use Rattle.siit_config.specs.Config.{config_of}
-use Rattle.siit_config.specs.Faults.{Fault, Tells}
+use Rattle.siit_config.specs.Faults.{Fault, Tells, fault_of}
 use Rattle.siit_config.specs.declared.fault.ConfigFault.{ConfigFault}
-use Rattle.siit_config.specs.declared.fault.ConfigFault.TheVariants.{NotToml, Missing, WrongKind, BadValue, Unknown, ChainLength, MtuOrder, BadEam, Eam, NotSymmetric, NoMemory}
+use Rattle.siit_config.specs.declared.fault.ConfigFault.TheVariants.{NoMemory}
 use Rattle.siit_roles.specs.Chain.{Chain}
 use Rattle.siit_roles.specs.declared.settings.Settings.{Settings}
 use Rattle.siit_word.specs.Files.{held}
@@ -14,31 +14,6 @@ use Rattle.siit_top.specs.MapRun.{Decision, decision, decision_at, decision_by, 
 use Rattle.siit_top.specs.Words.{Address}
 use Rattle.siit_top.specs.declared.status.Status.{Status}
 use Rattle.siit_top.specs.declared.status.Status.TheVariants as status
-
--- what the bytes of a configuration decide
-pub says_line : (told : Result Chain Fault) (chain : Chain) (settings : Settings) (device : ℕ) (address : Address) (old new : List ℕ) → told ≡ Ok chain → device_at device chain.devices ≡ Some settings → new ≡ old ++ map_line settings.mapping address → Says old new status.Ok (decision_by told device address)
-says_line told chain settings device address old new e h line =
-    subst (λ t. Says old new status.Ok (decision_by t device address)) (sym e)
-    (subst (λ d. Says old new status.Ok (decision_at d address)) (sym h) line)
-
-pub says_no_device : (told : Result Chain Fault) (chain : Chain) (device : ℕ) (address : Address) → told ≡ Ok chain → device_at device chain.devices ≡ None → decision_by told device address ≡ no_device
-says_no_device told chain device address e h =
-    ap (λ t. decision_by t device address) e ∙ ap (λ d. decision_at d address) h
-
-pub says_fault : (fault : ConfigFault) (told : Result Chain Fault) (device : ℕ) (address : Address) → fault ≢ NoMemory → Tells fault told → IsFault fault (decision_by told device address)
-says_fault NotToml told d a ne h = subst (λ t. IsFault NotToml (decision_by t d a)) (sym h) (ne, refl)
-says_fault (Missing device key) told d a ne h = subst (λ t. IsFault (Missing device key) (decision_by t d a)) (sym h) (ne, refl)
-says_fault (WrongKind device key) told d a ne h = subst (λ t. IsFault (WrongKind device key) (decision_by t d a)) (sym h) (ne, refl)
-says_fault (BadValue device key) told d a ne h = subst (λ t. IsFault (BadValue device key) (decision_by t d a)) (sym h) (ne, refl)
-says_fault (Unknown device key) told d a ne h = subst (λ t. IsFault (Unknown device key) (decision_by t d a)) (sym h) (ne, refl)
-says_fault ChainLength told d a ne h = subst (λ t. IsFault ChainLength (decision_by t d a)) (sym h) (ne, refl)
-says_fault (MtuOrder device) told d a ne h = subst (λ t. IsFault (MtuOrder device) (decision_by t d a)) (sym h) (ne, refl)
-says_fault (BadEam device entry) told d a ne h = subst (λ t. IsFault (BadEam device entry) (decision_by t d a)) (sym h) (ne, refl)
-says_fault (Eam device fault) told d a ne h = subst (λ t. IsFault (Eam device fault) (decision_by t d a)) (sym h.1) (ne, (h.0, refl))
-says_fault (NotSymmetric device) told d a ne h = subst (λ t. IsFault (NotSymmetric device) (decision_by t d a)) (sym h) (ne, refl)
-says_fault NoMemory told d a ne h = absurd (ne refl)
-
-pub ruleset decided = (says_line, says_no_device, says_fault)
 
 -- where the bytes are told, they are the file's
 read_as : (s : Status) (told : Bool) (file : Option (List ℕ)) (device : ℕ) (address : Address) (old new : List ℕ) → IsReadAs told file device address old new s → IsTrue told → Says old new s (decision (held file) device address)

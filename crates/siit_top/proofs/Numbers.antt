@@ -1,73 +1,82 @@
--- Decimal numbers that are read digit by digit, up to a limit.
-use Rattle.std.proofs.Common.{◌≡◌, ℕ, suc, ◌+◌, ◌*◌, ◌-◌, ◌^◌, ◌<◌, ◌≤◌, ◌&&◌, not, List, [], ◌∷◌, length, get_or, drop, Bool, true, false, nat_le, Option, Some, None, refl, ap, ◌∙◌, arith, subst, sym}
-use Rattle.std.specs.Prelude.{option_map, if◌then◌else◌}
-use Rattle.std.proofs.lemmas.Bool.{leb-false, leb-true, lt-leb, le-leb}
-use Rattle.std.proofs.lemmas.List.{drop_all}
-use Rattle.siit_addr.specs.Texts.{at_most, decimal_digit_of, has_leading_zero, number_in}
+-- Decimal numbers, as std parses them and as the definition reads them.
+use Rattle.std.proofs.Common.{rules, ◌≡◌, ◌≢◌, ℕ, ◌+◌, ◌*◌, ◌-◌, ◌^◌, ◌<◌, ◌≤◌, ◌&&◌, ◌||◌, ◌==◌, not, List, [], ◌∷◌, length, slice_index, Bool, true, false, nat_le, Option, Some, None, Result, Ok, Err, refl, ap, sym, ◌∙◌, arith}
+use Rattle.std.proofs.lemmas.Bool.{leb-true, lt-leb, le-leb}
+use Rattle.std.proofs.lemmas.Bool.Decides.{nat_tests}
+use Rattle.std.specs.Prelude.{if◌then◌else◌}
+use Rattle.std.specs.Result.{result_ok, OkIff}
+use Rattle.std.specs.Str.{all_ascii_digits}
+use Rattle.std.specs.Str.Parse.{ParsesUnsigned}
+use Rattle.std.proofs.lemmas.Str.Parse.{IsNumeralModel, numerals_by_fold, parse_plain}
+use Rattle.siit_addr.specs.Texts.{at_most, decimal_digit_of, has_leading_zero}
+use Rattle.siit_addr.proofs.NumberIn.{number_on, number_on-none}
 use Rattle.siit_top.specs.Words.{number_of_text}
-use Rattle.siit_addr.proofs.NumberIn.{number_on, number_on-none, number_on-digit, number_on-no_digit}
 
--- what more digits make of a number above the limit is above it
-pub above : (limit n : ℕ) (digits : List ℕ) → limit < n → at_most limit (number_on 10 decimal_digit_of (Some n) digits) ≡ None
-above limit n [] lt = rw (lt-leb n limit lt) refl
-above limit n (digit ∷ digits) lt = with_one (decimal_digit_of digit) (λ d. above limit (n * 10 + d) digits (omega (arith, lt)))
+-- the number that digits write behind another one
+abbrev read_on : ℕ → List ℕ → ℕ
+read_on n [] = n
+read_on n (digit ∷ digits) = read_on (n * 10 + (digit - 48)) digits
+
+decimals : IsNumeralModel (λ digits. all_ascii_digits digits ≡ true) (read_on 0)
+decimals = numerals_by_fold _ (search rules) read_on (search rules)
+
+number_on-decimals : (n : ℕ) (text : List ℕ) → number_on 10 decimal_digit_of (Some n) text ≡ (if all_ascii_digits text then Some (read_on n text) else None)
+number_on-decimals n [] = refl
+number_on-decimals n (byte ∷ text) = by_test (nat_le 48 byte && nat_le byte 57) refl (number_on-decimals (n * 10 + (byte - 48)) text)
   where
-    with_one : (d : Option ℕ) → ((d : ℕ) → at_most limit (number_on 10 decimal_digit_of (Some (n * 10 + d)) digits) ≡ None) → at_most limit (number_on 10 decimal_digit_of (option_map (λ d. n * 10 + d) d) digits) ≡ None
-    with_one None more = ap (at_most limit) (number_on-none 10 decimal_digit_of digits)
-    with_one (Some d) more = more d
+    by_test : (is_digit : Bool) → (nat_le 48 byte && nat_le byte 57) ≡ is_digit
+        → number_on 10 decimal_digit_of (Some (n * 10 + (byte - 48))) text ≡ (if all_ascii_digits text then Some (read_on (n * 10 + (byte - 48)) text) else None)
+        → number_on 10 decimal_digit_of (Some n) (byte ∷ text) ≡ (if all_ascii_digits (byte ∷ text) then Some (read_on n (byte ∷ text)) else None)
+    by_test true h more = rw h more
+    by_test false h more = rw h (number_on-none 10 decimal_digit_of text)
 
--- one more digit, where the number stays within the limit
-pub number_on-within : (limit n m i : ℕ) (text : List ℕ) → i < length text → at_most limit (option_map (λ d. n * 10 + d) (decimal_digit_of (get_or text i 0))) ≡ Some m → number_on 10 decimal_digit_of (Some n) (drop i text) ≡ number_on 10 decimal_digit_of (Some m) (drop (suc i) text)
-number_on-within limit n m i text lt e = by_digit (decimal_digit_of (get_or text i 0)) refl e
+-- the number, by the tests of its text
+abbrev tested : (some zero digits : Bool) → ℕ → Option ℕ
+tested some zero digits n = if some && not zero then at_most (2 ^ 64 - 1) (if digits then Some n else None) else None
+
+number_is : (text : List ℕ) → number_of_text text ≡ tested (nat_le 1 (length text)) (has_leading_zero text) (all_ascii_digits text) (read_on 0 text)
+number_is text = rw (number_on-decimals 0 text) refl
+
+no_digits : (some zero digits plus : Bool) (n : ℕ) → (plus || zero) ≡ true → (plus ≡ true → digits ≡ false) → None ≡ tested some zero digits n
+no_digits false zero digits plus n h sign = refl
+no_digits true true digits plus n h sign = refl
+no_digits true false digits true n h sign = rw (sign refl) refl
+no_digits true false digits false n h sign = cc
+
+plus_first : (text : List ℕ) → (slice_index text 0 == 43) ≡ true → all_ascii_digits text ≡ false
+plus_first [] h = cc
+plus_first (byte ∷ text) h = let same : byte ≡ 43 = grind (arith, nat_tests) in rw same refl
+
+-- a text with a sign or a leading zero is no number
+pub number_marked : (text : List ℕ) → ((slice_index text 0 == 43) || has_leading_zero text) ≡ true → None ≡ number_of_text text
+number_marked text h = rw (number_is text) (no_digits _ _ _ (slice_index text 0 == 43) (read_on 0 text) h (plus_first text))
+
+accepted : (x n : ℕ) (some zero digits : Bool) → zero ≡ false → digits ≡ true → some ≡ true → n < 2 ^ 64 → x ≡ n → Some x ≡ tested some zero digits n
+accepted x n some zero digits no_zero is_digits is_some within same = rw (no_zero, is_digits, is_some, le-leb n (2 ^ 64 - 1) (omega arith), same) refl
+
+refused : (n : ℕ) (some zero digits : Bool) → (digits ≡ true → some ≡ true → n < 2 ^ 64 → ⊥) → None ≡ tested some zero digits n
+refused n false zero digits none = refl
+refused n true true digits none = refl
+refused n true false false none = refl
+refused n true false true none =
+    let above : ¬ (n < 2 ^ 64) = none refl refl in
+    rw (lt-leb n (2 ^ 64 - 1) (omega arith)) refl
+
+-- any other is the number that is parsed
+pub number_parsed : {E : Type 0} (text : List ℕ) (parsed : Result ℕ E) → ParsesUnsigned 64 10 text parsed
+    → ((slice_index text 0 == 43) || has_leading_zero text) ≡ false → result_ok parsed ≡ number_of_text text
+number_parsed {E = E} text parsed h unmarked =
+    rw (number_is text) (by_result parsed (parse_plain decimals 64 text parsed h (no_plus _ _ (tests _ _ unmarked).0)))
   where
-    by_number : (d : ℕ) (fits : Bool) → nat_le (n * 10 + d) limit ≡ fits → (if fits then Some (n * 10 + d) else None) ≡ Some m → n * 10 + d ≡ m
-    by_number d true h e = cc
-    by_number d false h e = cc
+    tests : (a b : Bool) → (a || b) ≡ false → (a ≡ false) × (b ≡ false)
+    tests true b e = cc
+    tests false b e = (refl, e)
 
-    by_digit : (d : Option ℕ) → decimal_digit_of (get_or text i 0) ≡ d → at_most limit (option_map (λ d. n * 10 + d) d) ≡ Some m → number_on 10 decimal_digit_of (Some n) (drop i text) ≡ number_on 10 decimal_digit_of (Some m) (drop (suc i) text)
-    by_digit None h e = cc
-    by_digit (Some d) h e =
-        number_on-digit 10 decimal_digit_of n d i text lt h
-        ∙ ap (λ k. number_on 10 decimal_digit_of (Some k) (drop (suc i) text)) (by_number d (nat_le (n * 10 + d) limit) refl e)
+    no_plus : (a b : ℕ) → (a == b) ≡ false → a ≢ b
+    no_plus a b e = grind (arith, nat_tests)
 
--- no digit, or a number above the limit
-pub number_on-above : (limit n i : ℕ) (text : List ℕ) → i < length text → at_most limit (option_map (λ d. n * 10 + d) (decimal_digit_of (get_or text i 0))) ≡ None → at_most limit (number_on 10 decimal_digit_of (Some n) (drop i text)) ≡ None
-number_on-above limit n i text lt e = by_digit (decimal_digit_of (get_or text i 0)) refl e
-  where
-    by_number : (d : ℕ) (fits : Bool) → nat_le (n * 10 + d) limit ≡ fits → (if fits then Some (n * 10 + d) else None) ≡ None → limit < n * 10 + d
-    by_number d true h e = cc
-    by_number d false h e = leb-false (n * 10 + d) limit h
+    by_result : (r : Result ℕ E) → OkIff r ((all_ascii_digits text ≡ true) × (0 < length text) × (read_on 0 text < 2 ^ 64)) (read_on 0 text)
+        → result_ok r ≡ tested (nat_le 1 (length text)) (has_leading_zero text) (all_ascii_digits text) (read_on 0 text)
+    by_result (Ok x) facts = accepted x _ _ _ _ (tests _ _ unmarked).1 facts.0.0 (le-leb 1 (length text) facts.0.1) facts.0.2 facts.1
+    by_result (Err e) none = refused _ _ _ _ (λ digits some within. none (digits, leb-true 1 (length text) some, within))
 
-    by_digit : (d : Option ℕ) → decimal_digit_of (get_or text i 0) ≡ d → at_most limit (option_map (λ d. n * 10 + d) d) ≡ None → at_most limit (number_on 10 decimal_digit_of (Some n) (drop i text)) ≡ None
-    by_digit None h e = ap (at_most limit) (number_on-no_digit 10 decimal_digit_of n i text lt h)
-    by_digit (Some d) h e =
-        ap (at_most limit) (number_on-digit 10 decimal_digit_of n d i text lt h)
-        ∙ above limit (n * 10 + d) (drop (suc i) text) (by_number d (nat_le (n * 10 + d) limit) refl e)
-
-abbrev has_digits : List ℕ → Bool
-has_digits text = nat_le 1 (length text) && not (has_leading_zero text)
-
-by_digits : (text : List ℕ) → has_digits text ≡ true → at_most (2 ^ 64 - 1) (number_in 10 decimal_digit_of text) ≡ number_of_text text
-by_digits text starts = ap (λ b. if b then at_most (2 ^ 64 - 1) (number_in 10 decimal_digit_of text) else None) (sym starts)
-
--- all digits are read
-pub number_read : (n i : ℕ) (text : List ℕ) → has_digits text ≡ true → length text ≤ i → n < 2 ^ 64 → number_on 10 decimal_digit_of (Some n) (drop i text) ≡ number_in 10 decimal_digit_of text → Some n ≡ number_of_text text
-number_read n i text starts all fits e =
-    let small : at_most (2 ^ 64 - 1) (Some n) ≡ Some n = rw (le-leb n (2 ^ 64 - 1) (omega (arith, fits))) refl in
-    let whole : Some n ≡ number_in 10 decimal_digit_of text = ap (number_on 10 decimal_digit_of (Some n)) (sym (drop_all i text all)) ∙ e in
-    sym small ∙ ap (at_most (2 ^ 64 - 1)) whole ∙ by_digits text starts
-
--- the next byte is refused
-pub number_refused : (n i : ℕ) (text : List ℕ) → has_digits text ≡ true → i < length text → number_on 10 decimal_digit_of (Some n) (drop i text) ≡ number_in 10 decimal_digit_of text → at_most (2 ^ 64 - 1) (option_map (λ d. n * 10 + d) (decimal_digit_of (get_or text i 0))) ≡ None → None ≡ number_of_text text
-number_refused n i text starts lt e none =
-    sym (number_on-above (2 ^ 64 - 1) n i text lt none) ∙ ap (at_most (2 ^ 64 - 1)) e ∙ by_digits text starts
-
-pub within_limit : (limit m : ℕ) (n : Option ℕ) → at_most limit n ≡ Some m → m ≤ limit
-within_limit limit m None e = cc
-within_limit limit m (Some n) e = by_fit (nat_le n limit) refl e
-  where
-    by_fit : (fits : Bool) → nat_le n limit ≡ fits → (if fits then Some n else None) ≡ Some m → m ≤ limit
-    by_fit true h e = let same : n ≡ m = cc in subst (λ k. k ≤ limit) same (leb-true n limit h)
-    by_fit false h e = cc
-
-pub ruleset digit_by_digit = (number_on-within, number_refused, within_limit)
+pub ruleset number_read = (number_marked, number_parsed)

@@ -8,7 +8,7 @@ use Rattle.siit_model.specs.Bytes.{field16}
 use Rattle.siit_model.specs.Ipv4.{Ipv4Packet, ipv4_of, is_whole4, total_length4}
 use Rattle.siit_model.specs.Ipv6.{ipv6_bytes}
 use Rattle.siit_v4to6.specs.To6.{translated_to_6}
-use Rattle.siit_rfc6052.specs.Embedding.{embedded}
+use Rattle.siit_rfc6052.specs.Embedding.{embedded, well_known}
 use Rattle.siit_top.specs.PlainCapture.{Captured}
 use Rattle.siit_top.specs.WrittenCapture.{output_head, output_record}
 
@@ -18,22 +18,20 @@ has_plain_upper packet =
     ((packet.protocol == 6) && nat_le 20 (length packet.payload))
     || ((packet.protocol == 17) && nat_le 8 (length packet.payload) && nat_lt 0 (field16 packet.payload 6))
 
--- What is translated so far: a whole TCP or UDP packet without options between global addresses, with TTL left, that fits a
--- link of 1,280 bytes on the other side.
+-- a packet that is no fragment, without options, with TTL left, that fits a link of 1,280 bytes on the other side
+abbrev pub has_plain_header : Ipv4Packet → Bool
+has_plain_header packet =
+    is_whole4 packet && (length packet.options == 0) && nat_le 2 packet.ttl && nat_le (total_length4 packet) 1260
+
+-- What is translated so far: a packet with such a header and such an upper part, between global addresses.
 abbrev pub is_plain : Ipv4Packet → Bool
 is_plain packet =
-    is_whole4 packet
-    && (length packet.options == 0)
-    && nat_le 2 packet.ttl
-    && nat_le (total_length4 packet) 1260
+    has_plain_header packet
     && has_plain_upper packet
     && not (is_non_global_number packet.source)
     && not (is_non_global_number packet.destination)
 
--- the well-known prefix 64:ff9b::/96, and an address under it (RFC 6052 section 2.1)
-abbrev pub well_known : ℕ
-well_known = 0x0064ff9b * 2 ^ 96
-
+-- an address under the well-known prefix 64:ff9b::/96 (RFC 6052 section 2.1)
 abbrev pub under_well_known : ℕ → ℕ
 under_well_known address = embedded 96 well_known address
 

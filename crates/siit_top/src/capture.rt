@@ -22,7 +22,7 @@ pub(crate) struct Record<'a> {
     pub packet: &'a [u8],
 }
 
-fn get32(bytes: &[u8], at: usize) -> u32
+fn little32(bytes: &[u8], at: usize) -> u32
     requires { at + 4 ≤ length bytes.now }
     ensures { result ≡ little32 bytes.now at }
 {
@@ -32,7 +32,7 @@ fn get32(bytes: &[u8], at: usize) -> u32
 pub(crate) fn is_plain_head(bytes: &[u8]) -> bool
     ensures { result ≡ is_plain_head bytes.now }
 {
-    bytes.len() >= 24 && &bytes[..8] == MAGIC_AND_VERSION.as_slice() && get32(bytes, 20) == RAW_IP
+    bytes.len() >= 24 && &bytes[..8] == MAGIC_AND_VERSION.as_slice() && little32(bytes, 20) == RAW_IP
 }
 
 /// The whole record at the front, and the bytes behind it.
@@ -44,8 +44,8 @@ pub(crate) fn first_record(rest: &[u8]) -> Option<(Record<'_>, &[u8])>
     if rest.len() < 16 {
         return None;
     }
-    let microseconds = get32(rest, 4);
-    let captured = get32(rest, 8);
+    let microseconds = little32(rest, 4);
+    let captured = little32(rest, 8);
     if microseconds >= 1_000_000
         || captured > MOST_CAPTURED
         || rest.len() - 16 < captured as usize
@@ -54,7 +54,7 @@ pub(crate) fn first_record(rest: &[u8]) -> Option<(Record<'_>, &[u8])>
     }
     let (packet, behind) = rest[16..].split_at(captured as usize);
     let record = Record {
-        seconds: get32(rest, 0),
+        seconds: little32(rest, 0),
         microseconds,
         packet,
     };

@@ -1,5 +1,5 @@
 // The records of a capture, carried to the output.
-ghost use Rattle.std.specs.Prelude.{◌≡◌, ◌≤◌, ◌<◌, ◌+◌, ◌^◌, ◌++◌, [], length, true, is_some, not, count_by, IfOk, IsTrue, OnOk, OnErr, Some};
+ghost use Rattle.std.specs.Prelude.{◌≡◌, ◌≤◌, ◌<◌, ◌+◌, ◌^◌, ◌++◌, [], length, true, is_some, IfOk, IsTrue, OnOk, OnErr, Some};
 ghost use Rattle.std.specs.Bool.{OnFalse, OnTrue};
 ghost use Rattle.std.specs.List.{flat_map};
 ghost use Rattle.siit_word.specs.Causes.{NeverFalls, Rose};
@@ -8,7 +8,7 @@ ghost use Rattle.siit_top.specs.PlainCapture.{records_of};
 ghost use Rattle.siit_top.specs.Turns.{captured, is_plain_from, records_in, records_read};
 ghost use Rattle.siit_top.specs.Counted.{IsCount, IsPartOf};
 ghost use Rattle.siit_top.specs.Wkp.{is_carried, wkp_capture, written};
-ghost use Rattle.siit_top.specs.WrittenCapture.{little_bytes32, output_head};
+ghost use Rattle.siit_top.specs.WrittenCapture.{little_bytes32};
 
 use crate::capture::{Record, first_record};
 use crate::packet::{is_plain_packet, translate};
@@ -43,18 +43,18 @@ fn record_head(seconds: u32, nanoseconds: u32, len: u32) -> [u8; 16]
 }
 
 // Makes the buffer hold what comes of a record, or says that nothing does.
-fn load_written(buf: &mut PacketBuf, record: &Record<'_>) -> bool
-    requires { record.now.microseconds < 1000000 }
-    ensures carried { result ≡ is_carried (captured record.now) }
-    ensures written { OnTrue result (written (captured record.now) ≡ buf.new.bytes) }
-    ensures nothing { OnFalse result (written (captured record.now) ≡ []) }
+fn load_written(buf: &mut PacketBuf, found: &Record<'_>) -> bool
+    requires { found.now.microseconds < 1000000 }
+    ensures carried { result ≡ is_carried (captured found.now) }
+    ensures written { OnTrue result (written (captured found.now) ≡ buf.new.bytes) }
+    ensures nothing { OnFalse result (written (captured found.now) ≡ []) }
 {
-    if !is_plain_packet(record.packet) {
+    if !is_plain_packet(found.packet) {
         return false;
     }
-    translate(buf, record.packet);
+    translate(buf, found.packet);
     let len = buf.bytes().len() as u32;
-    let head = record_head(record.seconds, record.microseconds * 1000, len);
+    let head = record_head(found.seconds, found.microseconds * 1000, len);
     replace_front(buf, 0, &head);
     true
 }
@@ -64,14 +64,14 @@ fn carry_record<F: Files>(
     files: &mut F,
     output: &str,
     buf: &mut PacketBuf,
-    record: &Record<'_>,
+    found: &Record<'_>,
 ) -> Result<bool, Failed>
-    requires { record.now.microseconds < 1000000 }
-    ensures carried { IfOk result (λ carried. carried ≡ is_carried (captured record.now)) }
+    requires { found.now.microseconds < 1000000 }
+    ensures carried { IfOk result (λ carried. carried ≡ is_carried (captured found.now)) }
     ensures ok { OnOk result (IsTrue (F.is_told files.old output.now)
-        → GrowsBy (F.contents files.old output.now) (F.contents files.new output.now) (written (captured record.now))) }
+        → GrowsBy (F.contents files.old output.now) (F.contents files.new output.now) (written (captured found.now))) }
     ensures err { OnErr result (IsTrue (F.is_told files.old output.now)
-        → GrowsByPrefix (F.contents files.old output.now) (F.contents files.new output.now) (written (captured record.now))) }
+        → GrowsByPrefix (F.contents files.old output.now) (F.contents files.new output.now) (written (captured found.now))) }
     ensures others { StaysBut output.now (F.contents files.old) (F.contents files.new) }
     ensures given { Stays (F.given files.old) (F.given files.new) }
     ensures told { Stays (F.is_told files.old) (F.is_told files.new) }
@@ -79,7 +79,7 @@ fn carry_record<F: Files>(
     ensures reads { NeverFalls (F.read_faults files.old) (F.read_faults files.new) }
     ensures writes { NeverFalls (F.write_faults files.old) (F.write_faults files.new) }
 {
-    if !load_written(buf, record) {
+    if !load_written(buf, found) {
         return Ok(false);
     }
     append_all(files, output, buf.bytes())?;

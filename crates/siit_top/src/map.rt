@@ -5,7 +5,7 @@ ghost use Rattle.siit_config.specs.Config.{config_of};
 ghost use Rattle.siit_word.specs.Causes.{NeverFalls, Rose};
 ghost use Rattle.siit_word.specs.Files.{held, Stays, StaysBut};
 ghost use Rattle.siit_top.specs.MapLine.{map_line, means_text, refusal_name};
-ghost use Rattle.siit_top.specs.MapRun.{decision, decision_by, device_at, IsMapStatus, IsReadAs, OnWhole, Says};
+ghost use Rattle.siit_top.specs.MapRun.{decision_by, device_at, IsMapStatus, IsReadAs, OnWhole, Says};
 ghost use Rattle.siit_top.specs.Read.{address_read};
 
 use crate::reading::{Unread, read_whole};
@@ -16,7 +16,7 @@ use siit_config::{ConfigFault, read_config};
 use siit_eamt::Steps;
 use siit_map::{MapRefusal, Mapping, Means};
 use siit_roles::Settings;
-use siit_word::{Files, NoMemory};
+use siit_word::Files;
 use std::alloc::{AllocError, Global};
 use std::marker::Brand;
 use std::sync::ledger::{Blank, Ledger};
@@ -55,16 +55,14 @@ fn mapped_line(alloc: Global, from: &str, to: &str, means: &str) -> Result<Strin
     ensures { IfOk result (λ line. string_bytes line
         ≡ from.now ++ codes " " ++ (to.now ++ codes " " ++ means.now) ++ 10 ∷ []) }
 {
-    let line = format!(in alloc; "{from} {to} {means}\n")?;
-    Ok(line)
+    format!(in alloc; "{from} {to} {means}\n")
 }
 
 fn refused_line(alloc: Global, from: &str, refusal: &str) -> Result<String, AllocError>
     ensures { IfOk result (λ line. string_bytes line
         ≡ from.now ++ codes " " ++ (codes "refused " ++ refusal.now) ++ 10 ∷ []) }
 {
-    let line = format!(in alloc; "{from} refused {refusal}\n")?;
-    Ok(line)
+    format!(in alloc; "{from} refused {refusal}\n")
 }
 
 fn line4<L: Ledger>(
@@ -135,17 +133,12 @@ fn append_line(
     mapping: &Mapping,
     address: Address,
     out: &mut Vec<u8>,
-) -> Result<(), NoMemory>
+) -> Result<(), AllocError>
     ensures ok { OnOk result (out.new.items ≡ out.old.items ++ map_line mapping.now (address_read address)) }
     ensures err { OnErr result (out.new.items ≡ out.old.items) }
 {
-    let Ok(line) = line_of(alloc, mapping, address) else {
-        return Err(NoMemory);
-    };
-    let Ok(()) = out.extend_from_slice(line.as_bytes()) else {
-        return Err(NoMemory);
-    };
-    Ok(())
+    let line = line_of(alloc, mapping, address)?;
+    out.extend_from_slice(line.as_bytes())
 }
 
 // The device at a place, the first being 1.
@@ -161,7 +154,6 @@ fn device_at(devices: &[Settings], device: u64) -> Option<&Settings>
 }
 
 // Answers by the bytes of a configuration.
-#[tactic(auto, using(crate::proofs::MapRuns::decided))]
 fn answer(alloc: Global, bytes: &[u8], device: u64, address: Address, out: &mut Vec<u8>) -> Status
     ensures status { IsMapStatus result }
     ensures no_fault { result ≢ Status.ReadFault }
@@ -180,7 +172,7 @@ fn answer(alloc: Global, bytes: &[u8], device: u64, address: Address, out: &mut 
     };
     match append_line(alloc, &settings.mapping, address, out) {
         Ok(()) => Status::Ok,
-        Err(NoMemory) => Status::NoMemory,
+        Err(AllocError) => Status::NoMemory,
     }
 }
 

@@ -1,5 +1,5 @@
 // A whole file, read piece by piece.
-ghost use Rattle.std.specs.Prelude.{◌≡◌, ◌≤◌, ◌<◌, ◌^◌, length, vec_len, IfOk, IsTrue, Some, Err};
+ghost use Rattle.std.specs.Prelude.{◌≡◌, ◌≤◌, ◌<◌, ◌^◌, length, IfOk, IsTrue, Some, Err};
 ghost use Rattle.siit_word.specs.Causes.{NeverFalls, Rose};
 ghost use Rattle.siit_word.specs.Files.{held, Stays, StaysBut};
 

@@ -14,8 +14,8 @@ use crate::lines::end_line;
 use crate::reading::{Unread, read_whole};
 use crate::status::{CaptureFault, End, Status};
 use siit_views::PacketBuf;
-use siit_word::{Files, NoMemory};
-use std::alloc::Global;
+use siit_word::Files;
+use std::alloc::{AllocError, Global};
 
 // The word that names IN, counted from 0.
 const INPUT_WORD: u8 = 1;
@@ -24,18 +24,13 @@ const INPUT_WORD: u8 = 1;
 const MOST_CAPTURE: usize = 4_294_967_296;
 
 // Appends the end line of these counts.
-fn append_line(alloc: Global, counts: &Counts, out: &mut Vec<u8>) -> Result<(), NoMemory>
+fn append_line(alloc: Global, counts: &Counts, out: &mut Vec<u8>) -> Result<(), AllocError>
     ensures ok { OnOk result
         (out.new.items ≡ out.old.items ++ end_line counts.now.read 0 0 counts.now.written counts.now.drops) }
     ensures err { OnErr result (out.new.items ≡ out.old.items) }
 {
-    let Ok(line) = end_line(alloc, (counts.read, 0), (0, counts.written), counts.drops) else {
-        return Err(NoMemory);
-    };
-    let Ok(()) = out.extend_from_slice(line.as_bytes()) else {
-        return Err(NoMemory);
-    };
-    Ok(())
+    let line = end_line(alloc, (counts.read, 0), (0, counts.written), counts.drops)?;
+    out.extend_from_slice(line.as_bytes())
 }
 
 /// Why a run stopped at its output.

@@ -1,7 +1,7 @@
 // The command that the words after the program's name are.
-ghost use Rattle.std.specs.Prelude.{◌≡◌, ◌+◌, ◌*◌, ◌-◌, ◌^◌, ◌&&◌, [], ◌∷◌, length, map, nat_le, not, option_map};
+ghost use Rattle.std.specs.Prelude.{◌≡◌, ◌||◌, ◌==◌, [], ◌∷◌, map, option_map, slice_index};
 ghost use Rattle.std.specs.String.{string_bytes};
-ghost use Rattle.siit_addr.specs.Texts.{at_most, both_with, decimal_digit_of, has_leading_zero};
+ghost use Rattle.siit_addr.specs.Texts.{both_with, has_leading_zero};
 ghost use Rattle.siit_top.specs.Words.{address_of_text, command_of, is_output, map_address, number_of_text};
 ghost use Rattle.siit_top.specs.Read.{address_read, command_read};
 
@@ -37,43 +37,22 @@ fn is_output(output: &str, input: &str) -> bool
     output != "-" && output != input
 }
 
-fn decimal_digit(byte: u8) -> Option<u8>
-    ensures { result ≡ decimal_digit_of byte }
+// What `parse` takes before the digits of a number: a sign, or a zero.
+fn has_mark(text: &[u8]) -> bool
+    ensures { result ≡ ((slice_index text.now 0 == 43) || has_leading_zero text.now) }
 {
-    match byte {
-        b'0'..=b'9' => Some(byte - b'0'),
-        _ => None,
-    }
+    matches!(*text, [b'+', ..] | [b'0', _, ..])
 }
 
-// A number with one more digit.
-fn with_digit(number: u64, byte: u8) -> Option<u64>
-    ensures { result ≡ at_most (2 ^ 64 - 1) (option_map (λ digit. number * 10 + digit) (decimal_digit_of byte)) }
-{
-    let digit = decimal_digit(byte)?;
-    number.checked_mul(10)?.checked_add(u64::from(digit))
-}
-
-// Whether there are digits to read, none of them a leading zero.
-fn has_digits(text: &[u8]) -> bool
-    ensures { result ≡ (nat_le 1 (length text.now) && not (has_leading_zero text.now)) }
-{
-    !matches!(*text, [] | [b'0', _, ..])
-}
-
-// The number that decimal digits write, if it is below 2^64.
-#[tactic(auto, using(crate::proofs::Numbers::digit_by_digit))]
-fn read_number(text: &[u8]) -> Option<u64>
+// The number below 2^64 that decimal digits write, without a sign or leading zeros.
+#[tactic(auto, using(crate::proofs::Numbers::number_read))]
+fn read_number(text: &str) -> Option<u64>
     ensures { result ≡ number_of_text text.now }
 {
-    if !has_digits(text) {
+    if has_mark(text.as_bytes()) {
         return None;
     }
-    let mut number = 0;
-    for byte in text {
-        number = with_digit(number, *byte)?;
-    }
-    Some(number)
+    text.parse().ok()
 }
 
 fn read_address(text: &str) -> Option<Address>
@@ -91,7 +70,7 @@ fn read_map<'a>(configuration: &'a String, device: &str, address: &str) -> Optio
     ensures { option_map command_read result
         ≡ both_with (map_address (string_bytes configuration.now)) (number_of_text device.now) (address_of_text address.now) }
 {
-    let device = read_number(device.as_bytes())?;
+    let device = read_number(device)?;
     let address = read_address(address)?;
     Some(Command::Map {
         configuration,

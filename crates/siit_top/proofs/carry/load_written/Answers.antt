@@ -8,7 +8,7 @@ returns-then-not-is_plain_packet-clause-carried c = sym (ap is_some c.if-not-is_
 
 pub returns-then-not-is_plain_packet-clause-nothing : goal.returns-then-not-is_plain_packet-clause-nothing
 returns-then-not-is_plain_packet-clause-nothing c =
-    let found = c.args.record.now in
+    let found = c.args.found.now in
     ap (λ o. option_map_or (output_record found.seconds (found.microseconds * 1000)) o []) c.if-not-is_plain_packet.ensures.other
 
 pub translate-requires : goal.translate-requires
@@ -31,7 +31,7 @@ returns-clause-carried c = sym (ap is_some c.translate.ensures.bytes)
 
 pub returns-clause-written : goal.returns-clause-written
 returns-clause-written c =
-    let found = c.args.record.now in
+    let found = c.args.found.now in
     let seconds = found.seconds in
     let nanoseconds = found.microseconds * 1000 in
     let bytes = c.translate.new.buf.bytes in
