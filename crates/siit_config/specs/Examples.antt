@@ -118,8 +118,8 @@ TopLevelIsRefused =
     ∷ Err (unknown 0 (codes "Left"))
     ∷ [])
 
--- Lowest above mtu6, an unknown key before that, a prefix that two entries have, a text that is no prefix, and prefixes that
--- overlap in a symmetric configuration and in another.
+-- Lowest above mtu6, an unknown key before that, a prefix that two entries have, a text that is no prefix, prefixes that overlap
+-- in a symmetric configuration, a key that the role doesn't have, and a role that there isn't.
 abbrev pub DevicesAreRefused : Type 0
 DevicesAreRefused =
     (map chain_of
