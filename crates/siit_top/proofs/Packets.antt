@@ -51,9 +51,15 @@ ipv4_fields-take bytes lengths =
     let header = header_length_in bytes in
     let twenty : 20 ≤ whole = omega (arith, lengths.header, lengths.total) in
     cc (
-      field8-take bytes whole 0 (omega arith), field8-take bytes whole 1 (omega arith), field16-take bytes whole 2 (omega arith),
-      field16-take bytes whole 4 (omega arith), field16-take bytes whole 6 (omega arith), field8-take bytes whole 8 (omega arith),
-      field8-take bytes whole 9 (omega arith), field32-take bytes whole 12 (omega arith), field32-take bytes whole 16 (omega arith),
+      field8-take bytes whole 0 (omega arith),
+      field8-take bytes whole 1 (omega arith),
+      field16-take bytes whole 2 (omega arith),
+      field16-take bytes whole 4 (omega arith),
+      field16-take bytes whole 6 (omega arith),
+      field8-take bytes whole 8 (omega arith),
+      field8-take bytes whole 9 (omega arith),
+      field32-take bytes whole 12 (omega arith),
+      field32-take bytes whole 16 (omega arith),
       part-take bytes whole 20 (header - 20) (omega (arith, lengths.header, lengths.total)),
       part-take bytes whole header (whole - header) (omega (arith, lengths.total)),
     )

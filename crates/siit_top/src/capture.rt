@@ -32,7 +32,9 @@ fn little32(bytes: &[u8], at: usize) -> u32
 pub(crate) fn is_plain_head(bytes: &[u8]) -> bool
     ensures { result ≡ is_plain_head bytes.now }
 {
-    bytes.len() >= 24 && &bytes[..8] == MAGIC_AND_VERSION.as_slice() && little32(bytes, 20) == RAW_IP
+    bytes.len() >= 24
+        && &bytes[..8] == MAGIC_AND_VERSION.as_slice()
+        && little32(bytes, 20) == RAW_IP
 }
 
 /// The whole record at the front, and the bytes behind it.

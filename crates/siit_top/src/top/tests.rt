@@ -1,119 +1,187 @@
 use super::*;
-use crate::{CaptureFault, End, Status, status_line};
+use crate::{Status, status_line};
 use siit_config::ConfigFault;
+use siit_eamt::EamFault;
 use siit_word::{Counter, MemFiles};
-use std::alloc::Global;
+use std::alloc::{AllocError, Global};
 use std::process::Abort;
 
-const HEAD: [u8; 24] = [
-    0xd4, 0xc3, 0xb2, 0xa1, 2, 0, 4, 0, 0, 0, 0, 0, 0, 0, 0, 0, 0, 0, 4, 0, 0x65, 0, 0, 0,
-];
-
-const RECORD_HEAD: [u8; 16] = [1, 0, 0, 0, 5, 0, 0, 0, 0x28, 0, 0, 0, 0x28, 0, 0, 0];
-
-/// A TCP packet from 8.8.8.8 to 1.1.1.1.
-const TCP_PACKET: [u8; 40] = [
-    0x45, 0, 0, 0x28, 0, 1, 0, 0, 0x40, 6, 0x68, 0xbe, 8, 8, 8, 8, 1, 1, 1, 1, 0xc0, 0, 0, 0x50, 0,
-    0, 0, 1, 0, 0, 0, 0, 0x50, 2, 0x20, 0, 0xbd, 0x7f, 0, 0,
-];
-
-const OUTPUT_HEAD: [u8; 24] = [
-    0x4d, 0x3c, 0xb2, 0xa1, 2, 0, 4, 0, 0, 0, 0, 0, 0, 0, 0, 0, 0, 0, 4, 0, 0x65, 0, 0, 0,
-];
-
-const OUTPUT_RECORD: [u8; 76] = [
-    1, 0, 0, 0, 0x88, 0x13, 0, 0, 0x3c, 0, 0, 0, 0x3c, 0, 0, 0, 0x60, 0, 0, 0, 0, 0x14, 6, 0x3f, 0,
-    0x64, 0xff, 0x9b, 0, 0, 0, 0, 0, 0, 0, 0, 8, 8, 8, 8, 0, 0x64, 0xff, 0x9b, 0, 0, 0, 0, 0, 0, 0,
-    0, 1, 1, 1, 1, 0xc0, 0, 0, 0x50, 0, 0, 0, 1, 0, 0, 0, 0, 0x50, 2, 0x20, 0, 0xbd, 0x7f, 0, 0,
-];
-
-/// The status of `wkp in out` over a file, what OUT holds afterwards, and what was printed.
-fn ran(
-    rt: &impl Abort,
-    alloc: Global,
-    parts: &[&[u8]],
-    fails: &[u64],
-) -> (Status, MemFiles, Vec<u8>) {
-    let mut files = MemFiles::new(alloc);
-    let mut capture = Vec::new(alloc);
-    for part in parts {
-        capture.extend_from_slice(part).expect(rt, "memory");
-    }
-    files.put("in", &capture).expect(rt, "memory");
-    files.fail_at(fails).expect(rt, "memory");
-    let mut words = Vec::new(alloc);
-    for word in ["wkp", "in", "out"] {
+/// The exit status of a run over these files, and what the program prints.
+fn ran(rt: &impl Abort, alloc: Global, words: &[&str], files: &mut MemFiles) -> (u8, Vec<u8>) {
+    let mut owned = Vec::new(alloc);
+    for word in words {
         let word = String::from_str(alloc, word).expect(rt, "memory");
-        assert!(rt; words.push(word).is_ok());
+        assert!(rt; owned.push(word).is_ok());
     }
     let mut out = Vec::new(alloc);
-    let status = siit_main(alloc, &words, &mut files, &mut Counter::new(), &mut out);
-    (status, files, out)
+    let status = siit_main(alloc, &owned, files, &mut Counter::new(), &mut out);
+    if status == Status::Ok {
+        return (status.code(), out);
+    }
+    assert!(rt; out.is_empty());
+    let line = status_line(alloc, &status).expect(rt, "memory");
+    (status.code(), line)
+}
+
+/// A part of a capture.
+#[derive(Clone, Copy)]
+enum Part {
+    Head,
+    RecordHead,
+    /// A TCP packet from 8.8.8.8 to 1.1.1.1.
+    Packet,
+    /// The same with TTL 1. Its header checksum is right again with the higher byte moved.
+    Expired,
+    Zeros,
+}
+
+fn bytes_of(part: Part) -> &'static [u8] {
+    match part {
+        Part::Head => &[
+            0xd4, 0xc3, 0xb2, 0xa1, 2, 0, 4, 0, 0, 0, 0, 0, 0, 0, 0, 0, 0, 0, 4, 0, 0x65, 0, 0, 0,
+        ],
+        Part::RecordHead => &[1, 0, 0, 0, 5, 0, 0, 0, 0x28, 0, 0, 0, 0x28, 0, 0, 0],
+        Part::Packet => &[
+            0x45, 0, 0, 0x28, 0, 1, 0, 0, 0x40, 6, 0x68, 0xbe, 8, 8, 8, 8, 1, 1, 1, 1, 0xc0, 0, 0,
+            0x50, 0, 0, 0, 1, 0, 0, 0, 0, 0x50, 2, 0x20, 0, 0xbd, 0x7f, 0, 0,
+        ],
+        Part::Expired => &[
+            0x45, 0, 0, 0x28, 0, 1, 0, 0, 1, 6, 0xa7, 0xbe, 8, 8, 8, 8, 1, 1, 1, 1, 0xc0, 0, 0,
+            0x50, 0, 0, 0, 1, 0, 0, 0, 0, 0x50, 2, 0x20, 0, 0xbd, 0x7f, 0, 0,
+        ],
+        Part::Zeros => &[0; 10],
+    }
+}
+
+const CARRIED: &[u8] = &[
+    0x4d, 0x3c, 0xb2, 0xa1, 2, 0, 4, 0, 0, 0, 0, 0, 0, 0, 0, 0, 0, 0, 4, 0, 0x65, 0, 0, 0, 1, 0, 0,
+    0, 0x88, 0x13, 0, 0, 0x3c, 0, 0, 0, 0x3c, 0, 0, 0, 0x60, 0, 0, 0, 0, 0x14, 6, 0x3f, 0, 0x64,
+    0xff, 0x9b, 0, 0, 0, 0, 0, 0, 0, 0, 8, 8, 8, 8, 0, 0x64, 0xff, 0x9b, 0, 0, 0, 0, 0, 0, 0, 0, 1,
+    1, 1, 1, 0xc0, 0, 0, 0x50, 0, 0, 0, 1, 0, 0, 0, 0, 0x50, 2, 0x20, 0, 0xbd, 0x7f, 0, 0,
+];
+
+/// Files with the capture "in", of which the calls with these numbers fail.
+fn with_capture(alloc: Global, parts: &[Part], fails: &[u64]) -> Result<MemFiles, AllocError> {
+    let mut capture = Vec::new(alloc);
+    for part in parts {
+        capture.extend_from_slice(bytes_of(*part))?;
+    }
+    let mut files = MemFiles::new(alloc);
+    match (files.put("in", &capture), files.fail_at(fails)) {
+        (Ok(()), Ok(())) => Ok(files),
+        _ => Err(AllocError),
+    }
+}
+
+/// The parts of IN, the numbers of the calls that fail, the exit status, what is printed, and how many bytes OUT has.
+///
+/// Two reads come first, and then the creation of OUT, its head and its records.
+const CAPTURES: &[(&[Part], &[u64], u8, &str, Option<usize>)] = &[
+    (
+        &[Part::Head, Part::RecordHead, Part::Packet],
+        &[],
+        0,
+        "end 1 0 0 1 0\n",
+        Some(100),
+    ),
+    (
+        &[
+            Part::Head,
+            Part::RecordHead,
+            Part::Packet,
+            Part::RecordHead,
+            Part::Expired,
+            Part::RecordHead,
+            Part::Packet,
+        ],
+        &[],
+        0,
+        "end 3 0 0 2 1\n",
+        Some(176),
+    ),
+    (&[Part::Head], &[], 0, "end 0 0 0 0 0\n", Some(24)),
+    (
+        &[Part::Head, Part::RecordHead, Part::Packet, Part::Zeros],
+        &[],
+        6,
+        "siit: bad capture: left at 0: NotBuilt\n",
+        None,
+    ),
+    (
+        &[],
+        &[],
+        6,
+        "siit: bad capture: left at 0: NotBuilt\n",
+        None,
+    ),
+    (
+        &[Part::Head, Part::RecordHead, Part::Packet],
+        &[0],
+        4,
+        "siit: read fault\n",
+        None,
+    ),
+    (
+        &[Part::Head, Part::RecordHead, Part::Packet],
+        &[2],
+        5,
+        "siit: write fault\n",
+        None,
+    ),
+    (
+        &[Part::Head, Part::RecordHead, Part::Packet],
+        &[4],
+        5,
+        "siit: write fault\n",
+        Some(24),
+    ),
+];
+
+/// The exit status of `wkp in out` over these files, and what the program prints.
+fn translated(rt: &impl Abort, alloc: Global, files: &mut MemFiles) -> (u8, Vec<u8>) {
+    ran(rt, alloc, &["wkp", "in", "out"], files)
+}
+
+#[test]
+fn translates_captures(rt: HostRuntime) {
+    for &(parts, fails, code, line, len) in CAPTURES {
+        let mut files = with_capture(rt.alloc(), parts, fails).expect(&rt, "memory");
+        let (status, printed) = translated(&rt, rt.alloc(), &mut files);
+        assert_eq!(rt; printed.as_slice(), line.as_bytes());
+        assert_eq!(rt; status, code);
+        assert!(rt; files.bytes_of("out").map(|held| held.len()) == len);
+    }
 }
 
 #[test]
 fn carries_one_packet(rt: HostRuntime) {
-    let (status, files, out) = ran(&rt, rt.alloc(), &[&HEAD, &RECORD_HEAD, &TCP_PACKET], &[]);
-    assert_eq!(rt; status, Status::Ok);
-    let held = files.bytes_of("out").expect(&rt, "a file");
-    assert!(rt;
-        held.len() == 100
-            && &held[..24] == OUTPUT_HEAD.as_slice()
-            && &held[24..] == OUTPUT_RECORD.as_slice()
-    );
-    assert_eq!(rt; out.as_slice(), b"end 1 0 0 1 0\n".as_slice());
+    let parts = [Part::Head, Part::RecordHead, Part::Packet];
+    let mut files = with_capture(rt.alloc(), &parts, &[]).expect(&rt, "memory");
+    let (status, _) = translated(&rt, rt.alloc(), &mut files);
+    assert_eq!(rt; status, 0);
+    assert!(rt; files.bytes_of("out") == Some(CARRIED));
 }
 
-#[test]
-fn counts_a_drop_between(rt: HostRuntime) {
-    // The same packet with TTL 1 is dropped: its header checksum is right again with the higher byte moved.
-    let mut dropped = TCP_PACKET;
-    dropped[8] = 1;
-    dropped[10] = 0xa7;
-    let parts: [&[u8]; 7] = [
-        &HEAD,
-        &RECORD_HEAD,
-        &TCP_PACKET,
-        &RECORD_HEAD,
-        &dropped,
-        &RECORD_HEAD,
-        &TCP_PACKET,
-    ];
-    let (status, files, out) = ran(&rt, rt.alloc(), &parts, &[]);
-    assert_eq!(rt; status, Status::Ok);
-    assert!(rt; files.bytes_of("out").map_or(0, |held| held.len()) == 176);
-    assert_eq!(rt; out.as_slice(), b"end 3 0 0 2 1\n".as_slice());
+/// What a configuration is.
+#[derive(Clone, Copy)]
+enum Configuration {
+    /// A border relay and an edge relay (RFC 7755, RFC 7756) with one table.
+    Relays,
+    /// The customer side of 464XLAT (RFC 6877).
+    Customer,
+    /// A symmetric chain of one device, with these lines more.
+    Plain(&'static str),
+    /// This text.
+    Text(&'static str),
+    /// So many spaces.
+    Spaces(usize),
 }
 
-#[test]
-fn answers_by_the_bytes(rt: HostRuntime) {
-    let (status, files, out) = ran(&rt, rt.alloc(), &[&HEAD], &[]);
-    assert_eq!(rt; status, Status::Ok);
-    assert!(rt; files.bytes_of("out").map_or(0, |held| held.len()) == 24);
-    assert_eq!(rt; out.as_slice(), b"end 0 0 0 0 0\n".as_slice());
-    let parts: [&[u8]; 4] = [&HEAD, &RECORD_HEAD, &TCP_PACKET, &[0; 10]];
-    let (status, files, _) = ran(&rt, rt.alloc(), &parts, &[]);
-    assert!(rt; matches!(status, Status::BadCapture { .. }));
-    assert!(rt; files.bytes_of("out").is_none());
-    let (status, _, _) = ran(&rt, rt.alloc(), &[], &[]);
-    assert!(rt; matches!(status, Status::BadCapture { .. }));
-}
-
-#[test]
-fn reports_failed_calls(rt: HostRuntime) {
-    let parts: [&[u8]; 3] = [&HEAD, &RECORD_HEAD, &TCP_PACKET];
-    let (status, files, _) = ran(&rt, rt.alloc(), &parts, &[0]);
-    assert_eq!(rt; status, Status::ReadFault);
-    assert!(rt; files.bytes_of("out").is_none());
-    // Two reads, the creation and the head come before the record.
-    let (status, files, out) = ran(&rt, rt.alloc(), &parts, &[4]);
-    assert_eq!(rt; status, Status::WriteFault);
-    assert!(rt; files.bytes_of("out").map_or(0, |held| held.len()) == 24);
-    assert!(rt; out.is_empty());
-}
-
-/// A border relay and an edge relay (RFC 7755, RFC 7756) with one table.
-const RELAYS: &[u8] = b"left = 4
+fn bytes_in(alloc: Global, configuration: Configuration) -> Result<Vec<u8>, AllocError> {
+    match configuration {
+        Configuration::Relays => text(
+            alloc,
+            "left = 4
 [[device]]
 role = \"border\"
 prefix = \"64:ff9b::/96\"
@@ -126,10 +194,12 @@ prefix = \"64:ff9b::/96\"
 eam = [[\"192.0.2.1/32\", \"2001:db8:6464::1/128\"]]
 address4 = \"192.0.2.253\"
 address6 = \"2001:db8:ffff::2\"
-";
-
-/// The customer side of 464XLAT (RFC 6877).
-const CUSTOMER: &[u8] = b"left = 4
+",
+            "",
+        ),
+        Configuration::Customer => text(
+            alloc,
+            "left = 4
 [[device]]
 role = \"customer\"
 prefix = \"2001:db8:64:64::/64\"
@@ -137,119 +207,283 @@ local4 = \"192.168.1.0/24\"
 local_prefix6 = \"2001:db8:c1a7::/96\"
 address4 = \"192.168.1.1\"
 address6 = \"2001:db8:ffff::1\"
-";
+",
+            "",
+        ),
+        Configuration::Plain(lines) => text(
+            alloc,
+            "left = 4
+symmetric = true
+[[device]]
+role = \"plain\"
+prefix = \"64:ff9b::/96\"
+address4 = \"192.0.2.254\"
+address6 = \"2001:db8:ffff::1\"
+",
+            lines,
+        ),
+        Configuration::Text(lines) => text(alloc, "", lines),
+        Configuration::Spaces(count) => vec![in alloc; b' '; count],
+    }
+}
 
-/// The status of `map c DEVICE ADDRESS` over a file, and what was printed.
+fn text(alloc: Global, first: &str, rest: &str) -> Result<Vec<u8>, AllocError> {
+    let mut bytes = Vec::new(alloc);
+    bytes.extend_from_slice(first.as_bytes())?;
+    bytes.extend_from_slice(rest.as_bytes())?;
+    Ok(bytes)
+}
+
+/// A configuration, a device, an address, the exit status, and what is printed.
+const MAPPED: &[(Configuration, &str, &str, u8, &str)] = &[
+    (
+        Configuration::Relays,
+        "1",
+        "10.0.0.1",
+        0,
+        "10.0.0.1 refused WkpNonGlobal\n",
+    ),
+    (
+        Configuration::Relays,
+        "1",
+        "8.8.8.8",
+        0,
+        "8.8.8.8 64:ff9b::808:808 prefix\n",
+    ),
+    (
+        Configuration::Relays,
+        "1",
+        "192.0.2.1",
+        0,
+        "192.0.2.1 2001:db8:6464::1 eam 1\n",
+    ),
+    (
+        Configuration::Relays,
+        "2",
+        "2001:DB8:6464:0::1",
+        0,
+        "2001:db8:6464::1 192.0.2.1 eam 1\n",
+    ),
+    (
+        Configuration::Relays,
+        "2",
+        "2001:db8::1",
+        0,
+        "2001:db8::1 refused NoMapping\n",
+    ),
+    (
+        Configuration::Customer,
+        "1",
+        "192.168.1.10",
+        0,
+        "192.168.1.10 2001:db8:c1a7::c0a8:10a local\n",
+    ),
+    (
+        Configuration::Customer,
+        "1",
+        "2001:db8:64:64:c6:2900:400:0",
+        0,
+        "2001:db8:64:64:c6:2900:400:0 198.41.0.4 prefix\n",
+    ),
+    (
+        Configuration::Customer,
+        "1",
+        "2001:db8:c1a7::808:808",
+        0,
+        "2001:db8:c1a7::808:808 refused LocalMismatch\n",
+    ),
+    (
+        Configuration::Relays,
+        "3",
+        "8.8.8.8",
+        10,
+        "siit: no device\n",
+    ),
+    (
+        Configuration::Relays,
+        "0",
+        "8.8.8.8",
+        10,
+        "siit: no device\n",
+    ),
+    (
+        Configuration::Relays,
+        "18446744073709551615",
+        "::1",
+        10,
+        "siit: no device\n",
+    ),
+    (
+        Configuration::Relays,
+        "18446744073709551616",
+        "::1",
+        2,
+        "siit: bad words\n",
+    ),
+    (
+        Configuration::Relays,
+        "01",
+        "8.8.8.8",
+        2,
+        "siit: bad words\n",
+    ),
+    (
+        Configuration::Relays,
+        "+1",
+        "8.8.8.8",
+        2,
+        "siit: bad words\n",
+    ),
+    (
+        Configuration::Relays,
+        "1",
+        "192.168.1.300",
+        2,
+        "siit: bad words\n",
+    ),
+    (
+        Configuration::Spaces(1_048_577),
+        "1",
+        "::1",
+        8,
+        "siit: too long: word 1\n",
+    ),
+    (
+        Configuration::Spaces(1_048_576),
+        "1",
+        "::1",
+        3,
+        "siit: bad config: device 0: missing left\n",
+    ),
+    (
+        Configuration::Text("="),
+        "1",
+        "::1",
+        3,
+        "siit: bad config: not toml\n",
+    ),
+    (
+        Configuration::Text("left = 4\ndevice = []"),
+        "1",
+        "::1",
+        3,
+        "siit: bad config: chain length\n",
+    ),
+    (
+        Configuration::Plain("tos = 0"),
+        "1",
+        "::1",
+        3,
+        "siit: bad config: device 1: wrong kind tos\n",
+    ),
+    (
+        Configuration::Plain("mtu4 = 67"),
+        "1",
+        "::1",
+        3,
+        "siit: bad config: device 1: bad value mtu4\n",
+    ),
+    (
+        Configuration::Plain("color = 1"),
+        "1",
+        "::1",
+        3,
+        "siit: bad config: device 1: unknown color\n",
+    ),
+    (
+        Configuration::Plain("mtu6 = 1300\nlowest_mtu6 = 1400"),
+        "1",
+        "::1",
+        3,
+        "siit: bad config: device 1: mtu order\n",
+    ),
+    (
+        Configuration::Plain("eam = [[\"192.0.2.1/32\", \"2001:db8::g\"]]"),
+        "1",
+        "::1",
+        3,
+        "siit: bad config: device 1: bad eam 0\n",
+    ),
+    (
+        Configuration::Plain("eam = [[\"192.0.2.1/24\", \"2001:db8::/120\"]]"),
+        "1",
+        "::1",
+        3,
+        "siit: bad config: device 1: eam 0: HostBits\n",
+    ),
+    (
+        Configuration::Plain("eam = [[\"192.0.2.0/24\", \"2001:db8::/121\"]]"),
+        "1",
+        "::1",
+        3,
+        "siit: bad config: device 1: eam 0: SuffixTooLong\n",
+    ),
+    (
+        Configuration::Plain(
+            "eam = [[\"192.0.2.1/32\", \"2001:db8:a::/128\"], [\"192.0.2.1/32\", \"2001:db8:b::/128\"]]",
+        ),
+        "1",
+        "::1",
+        3,
+        "siit: bad config: device 1: eam 1: Twice4 0\n",
+    ),
+    (
+        Configuration::Plain(
+            "eam = [[\"192.0.2.1/32\", \"2001:db8:a::/128\"], [\"192.0.2.2/32\", \"2001:db8:a::/128\"]]",
+        ),
+        "1",
+        "::1",
+        3,
+        "siit: bad config: device 1: eam 1: Twice6 0\n",
+    ),
+    (
+        Configuration::Plain(
+            "eam = [[\"198.51.100.0/24\", \"2001:db8:a::/120\"], [\"198.51.100.7/32\", \"2001:db8:b::7/128\"]]",
+        ),
+        "1",
+        "::1",
+        3,
+        "siit: bad config: device 1: not symmetric\n",
+    ),
+];
+
+/// The exit status of `map c DEVICE ADDRESS` over a configuration, and what the program prints.
 fn mapped(
     rt: &impl Abort,
     alloc: Global,
     configuration: &[u8],
     device: &str,
     address: &str,
-) -> (Status, Vec<u8>) {
+) -> (u8, Vec<u8>) {
     let mut files = MemFiles::new(alloc);
     files.put("c", configuration).expect(rt, "memory");
-    let mut words = Vec::new(alloc);
-    for word in ["map", "c", device, address] {
-        let word = String::from_str(alloc, word).expect(rt, "memory");
-        assert!(rt; words.push(word).is_ok());
-    }
-    let mut out = Vec::new(alloc);
-    let status = siit_main(alloc, &words, &mut files, &mut Counter::new(), &mut out);
-    (status, out)
+    ran(rt, alloc, &["map", "c", device, address], &mut files)
 }
 
 #[test]
 fn maps_addresses(rt: HostRuntime) {
-    let rows: [(&[u8], &str, &str, &[u8]); 8] = [
-        (RELAYS, "1", "10.0.0.1", b"10.0.0.1 refused WkpNonGlobal\n"),
-        (RELAYS, "1", "8.8.8.8", b"8.8.8.8 64:ff9b::808:808 prefix\n"),
-        (
-            RELAYS,
-            "1",
-            "192.0.2.1",
-            b"192.0.2.1 2001:db8:6464::1 eam 1\n",
-        ),
-        (
-            RELAYS,
-            "2",
-            "2001:DB8:6464:0::1",
-            b"2001:db8:6464::1 192.0.2.1 eam 1\n",
-        ),
-        (
-            RELAYS,
-            "2",
-            "2001:db8::1",
-            b"2001:db8::1 refused NoMapping\n",
-        ),
-        (
-            CUSTOMER,
-            "1",
-            "192.168.1.10",
-            b"192.168.1.10 2001:db8:c1a7::c0a8:10a local\n",
-        ),
-        (
-            CUSTOMER,
-            "1",
-            "2001:db8:64:64:c6:2900:400:0",
-            b"2001:db8:64:64:c6:2900:400:0 198.41.0.4 prefix\n",
-        ),
-        (
-            CUSTOMER,
-            "1",
-            "2001:db8:c1a7::808:808",
-            b"2001:db8:c1a7::808:808 refused LocalMismatch\n",
-        ),
-    ];
-    for (configuration, device, address, line) in rows {
-        let (status, out) = mapped(&rt, rt.alloc(), configuration, device, address);
-        assert_eq!(rt; status, Status::Ok);
-        assert_eq!(rt; out.as_slice(), line);
+    for &(configuration, device, address, code, line) in MAPPED {
+        let bytes = bytes_in(rt.alloc(), configuration).expect(&rt, "memory");
+        let (status, printed) = mapped(&rt, rt.alloc(), &bytes, device, address);
+        assert_eq!(rt; printed.as_slice(), line.as_bytes());
+        assert_eq!(rt; status, code);
     }
 }
 
 #[test]
-fn refuses_to_map(rt: HostRuntime) {
-    let rows = [
-        ("3", "8.8.8.8", Status::NoDevice),
-        ("0", "8.8.8.8", Status::NoDevice),
-        ("18446744073709551615", "::1", Status::NoDevice),
-        ("18446744073709551616", "::1", Status::BadWords),
-        ("01", "8.8.8.8", Status::BadWords),
-        ("1", "192.168.1.300", Status::BadWords),
-    ];
-    for (device, address, want) in rows {
-        let (status, out) = mapped(&rt, rt.alloc(), RELAYS, device, address);
-        assert_eq!(rt; status, want);
-        assert!(rt; out.is_empty());
-    }
-    let spaces = vec![in rt.alloc(); b' '; 1_048_577].expect(&rt, "memory");
-    let (status, _) = mapped(&rt, rt.alloc(), &spaces, "1", "::1");
-    assert_eq!(rt; status, Status::TooLong { word: 1 });
-    let (status, _) = mapped(&rt, rt.alloc(), &spaces[1..], "1", "::1");
-    assert!(rt;
-        matches!(
-            status,
-            Status::BadConfig(ConfigFault::Missing { device: 0, .. })
-        )
-    );
-}
-
-#[test]
-fn prints_statuses(rt: HostRuntime) {
-    let fault = Status::BadCapture {
-        end: End::Left,
-        place: 0,
-        fault: CaptureFault::NotBuilt,
+fn prints_what_no_short_run_ends_with(rt: HostRuntime) {
+    let too_many = ConfigFault::Eam {
+        device: 8,
+        fault: EamFault::TooMany,
     };
-    let rows: [(Status, u8, &[u8]); 7] = [
+    let rows: [(Status, u8, &[u8]); 3] = [
         (Status::Ok, 0, b""),
-        (Status::BadWords, 2, b"siit: bad words\n"),
-        (Status::ReadFault, 4, b"siit: read fault\n"),
-        (Status::WriteFault, 5, b"siit: write fault\n"),
-        (fault, 6, b"siit: bad capture: left at 0: NotBuilt\n"),
         (Status::NoMemory, 7, b"siit: no memory\n"),
-        (Status::TooLong { word: 1 }, 8, b"siit: too long: word 1\n"),
+        (
+            Status::BadConfig(too_many),
+            3,
+            b"siit: bad config: device 8: too many\n",
+        ),
     ];
     for (status, code, text) in rows {
         let line = status_line(rt.alloc(), &status).expect(&rt, "memory");
