@@ -110,14 +110,14 @@ plateau_below length = first_plateau plateaus length
 abbrev limited_to_6 : (mtu mtu4 mtu6 : ℕ) → ℕ
 limited_to_6 mtu mtu4 mtu6 = max 1280 (min (mtu + 20) (min mtu6 (mtu4 + 20)))
 
--- The MTU of an ICMPv4 message as that of the ICMPv6 message. A router that knows none writes 0: then it is the plateau below the quoted
--- packet, and 1280 without such a plateau.
+-- The MTU of an ICMPv4 message as that of the ICMPv6 message. A router that knows none writes 0: then the plateau below the quoted packet,
+-- of at least 1280, stands in its place, and without such a plateau it becomes 1280.
 abbrev pub mtu_to_6 : (mtu quoted_length mtu4 mtu6 : ℕ) → ℕ
 mtu_to_6 mtu quoted_length mtu4 mtu6 =
     if mtu == 0
     then elim (plateau_below quoted_length) [ None ↦ 1280 | Some plateau ↦ limited_to_6 plateau mtu4 mtu6 ]
     else limited_to_6 mtu mtu4 mtu6
 
--- an MTU of ICMPv6 as one of ICMPv4 (RFC 7915 section 5.2), at least 68 (RFC 791 section 3.2)
+-- An MTU of ICMPv6 as one of ICMPv4 (RFC 7915 section 5.2). Where both links carry as much, it is at least 68 (RFC 791 section 3.2).
 abbrev pub mtu_to_4 : (mtu mtu4 mtu6 : ℕ) → ℕ
 mtu_to_4 mtu mtu4 mtu6 = min (max mtu 88 - 20) (min mtu4 (mtu6 - 20))

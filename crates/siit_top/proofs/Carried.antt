@@ -1,19 +1,17 @@
 -- Records carried one after another.
-use Rattle.std.proofs.Common.{◌≡◌, ℕ, zero, suc, ◌+◌, ◌-◌, ◌≤◌, ◌<◌, List, [], ◌∷◌, ◌++◌, length, take, drop, Bool, true, false, not, Option, Some, None, is_some, option_map, unwrap_or, IsTrue, Result, Ok, Err, OnErr, if◌then◌else◌, count_by, refl, ap, sym, subst, ◌∙◌, arith, append_assoc, append-nil, nat_le, nat_lt, ◌&&◌, ◌^◌, length-append, length-take, length-drop}
-use Rattle.std.specs.List.{flat_map}
+use Rattle.std.proofs.Common.{◌≡◌, ℕ, zero, suc, ◌+◌, ◌≤◌, ◌<◌, List, [], ◌∷◌, ◌++◌, length, take, drop, Bool, true, false, not, Option, Some, None, is_some, option_map, unwrap_or, IsTrue, Result, Ok, Err, OnErr, if◌then◌else◌, count_by, refl, ap, sym, subst, ◌∙◌, arith, append_assoc, append-nil, nat_le, nat_lt, ◌&&◌, ◌^◌, length-append, length-drop}
 use Rattle.std.proofs.lemmas.List.{take_all, drop_at, drop-drop, take-append-le}
 use Rattle.std.proofs.Math.Seq.{take-add}
 use Rattle.std.proofs.lemmas.Bool.Decides.{nat_tests}
 use Rattle.std.proofs.lemmas.List.Sums.{count_by-le-length, sum_by-cons}
 use Rattle.siit_word.specs.Files.{grown, GrowsBy, GrowsByPrefix}
-use Rattle.siit_top.specs.Counted.{counted, is_dropped, IsCount, IsPartOf}
-use Rattle.siit_top.specs.PlainCapture.{Captured, first_record, behind_record, starts_with_record, records_from, records_of, is_plain_head, little32}
-use Rattle.siit_top.specs.Turns.{captured, is_plain_from, records_in, records_read, IsFirstRecord}
-use Rattle.siit_top.specs.Wkp.{is_carried, written, wkp_capture}
-use Rattle.siit_top.specs.WrittenCapture.{output_head}
+use Rattle.siit_top.specs.Counted.{counted, is_dropped, IsCount}
+use Rattle.siit_top.specs.PlainCapture.{Captured, first_record, behind_record, starts_with_record, records_from, little32}
+use Rattle.siit_top.specs.Turns.{captured, is_plain_from, records_in, IsFirstRecord}
+use Rattle.siit_top.specs.Wkp.{is_carried, written}
 use Rattle.siit_top.specs.declared.capture.Record.{Record}
 use Rattle.siit_top.specs.declared.carry.Counts.{Counts}
-use Rattle.siit_top.proofs.Records.{all_from, all_step, all_stop, plain_step, plain_stop, turns_enough}
+use Rattle.siit_top.proofs.Records.{all_from, all_step, plain_step, plain_stop}
 
 unwrap_or-option_map : (first : Captured) (o : Option (List Captured)) → is_some o ≡ true → unwrap_or (option_map (λ records. first ∷ records) o) [] ≡ first ∷ unwrap_or o []
 unwrap_or-option_map first None h = cc

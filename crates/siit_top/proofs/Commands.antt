@@ -1,5 +1,5 @@
 -- What holds of a command's status.
-use Rattle.std.proofs.Common.{◌≡◌, ◌⊎◌, ℕ, List, Option, Some, None, inl, inr, refl, subst, sym, ap, ◌∙◌}
+use Rattle.std.proofs.Common.{◌≡◌, ◌⊎◌, ℕ, List, Option, Some, inl, inr, refl, sym, ap, ◌∙◌}
 use Rattle.siit_top.specs.Run.{IsJudgement, IsWkpStatus}
 use Rattle.siit_top.specs.Words.{Address, Command, map_address, wkp}
 use Rattle.siit_top.specs.declared.status.Status.{Status}

@@ -1,16 +1,10 @@
 -- What the status of `map` says.
-use Rattle.std.proofs.Common.{◌≡◌, ◌≢◌, ◌⊎◌, ℕ, ◌≤◌, ◌<◌, List, ◌++◌, length, Bool, true, false, nat_lt, Option, Some, None, IfSome, Result, Ok, Err, IsTrue, inl, inr, refl, ap, sym, subst, ◌∙◌}
+use Rattle.std.proofs.Common.{◌≡◌, ◌⊎◌, ℕ, ◌<◌, List, length, Bool, Option, IsTrue, inl, inr, refl, ap, sym, subst}
 use Rattle.std.specs.Prelude.{if◌then◌else◌}
 use Rattle.std.proofs.lemmas.Bool.{lt-ltb}
 use Rattle.siit_config.specs.Config.{config_of}
-use Rattle.siit_config.specs.Faults.{Fault, Tells, fault_of}
-use Rattle.siit_config.specs.declared.fault.ConfigFault.{ConfigFault}
-use Rattle.siit_config.specs.declared.fault.ConfigFault.TheVariants.{NoMemory}
-use Rattle.siit_roles.specs.Chain.{Chain}
-use Rattle.siit_roles.specs.declared.settings.Settings.{Settings}
 use Rattle.siit_word.specs.Files.{held}
-use Rattle.siit_top.specs.MapLine.{map_line}
-use Rattle.siit_top.specs.MapRun.{Decision, decision, decision_at, decision_by, device_at, no_device, too_long, IsFault, IsMapStatus, IsReadAs, OnDecided, OnMap, OnWhole, Says}
+use Rattle.siit_top.specs.MapRun.{decision, decision_by, too_long, IsMapStatus, IsReadAs, OnDecided, OnWhole, Says}
 use Rattle.siit_top.specs.Words.{Address}
 use Rattle.siit_top.specs.declared.status.Status.{Status}
 use Rattle.siit_top.specs.declared.status.Status.TheVariants as status

@@ -1,12 +1,11 @@
 -- How far OUT is written.
-use Rattle.std.proofs.Common.{◌≡◌, ◌⊎◌, IsTrue, nat_lt, ℕ, ◌+◌, ◌<◌, ◌≤◌, List, [], ◌++◌, length, take, drop, Bool, true, false, ◌&&◌, nat_le, Option, Some, None, is_some, if◌then◌else◌, count_by, Result, Ok, Err, inl, inr, refl, ap, sym, subst, ◌∙◌, arith, length-append, length-drop, unwrap_or}
+use Rattle.std.proofs.Common.{◌≡◌, ◌⊎◌, IsTrue, nat_lt, ℕ, ◌+◌, ◌<◌, ◌≤◌, List, [], ◌++◌, length, take, drop, Bool, true, false, ◌&&◌, nat_le, Option, Some, None, is_some, if◌then◌else◌, count_by, Err, inl, inr, refl, ap, sym, subst, ◌∙◌, arith, length-append, length-drop, unwrap_or}
 use Rattle.std.proofs.lemmas.Bool.Decides.{nat_tests}
 use Rattle.std.proofs.lemmas.List.{take_all, take-append-le, take_at, drop_at}
 use Rattle.std.proofs.Math.Seq.{take-add}
-use Rattle.std.specs.List.{flat_map}
 use Rattle.siit_word.specs.Files.{grown, held, GrowsBy, GrowsByPrefix, MadeEmpty}
 use Rattle.siit_word.specs.declared.files.Failed.{Failed}
-use Rattle.siit_top.specs.Counted.{IsCount, IsPartOf, is_dropped}
+use Rattle.siit_top.specs.Counted.{IsCount, IsPartOf}
 use Rattle.siit_top.specs.PlainCapture.{Captured, is_plain_head, records_from, records_of}
 use Rattle.siit_top.specs.Turns.{is_plain_from, records_in, records_read}
 use Rattle.siit_top.specs.Wkp.{end_line, is_carried, wkp_capture, wkp_line}
@@ -99,12 +98,12 @@ judged_plain file bytes is short plain =
     done ∙ ap (λ o. judgement (held o)) (sym is)
 
 -- a part of OUT, as the run says it
-pub holds_part : (told_in : Bool) (file_in old new : Option (List ℕ)) (capture : List ℕ) → (IsTrue told_in → file_in ≡ Some capture) → is_some (records_of capture) ≡ true → IsPartOf old new (wkp_capture (records_read capture)) → (new ≡ old) ⊎ HoldsPart told_in file_in new
-holds_part told_in file_in old new capture read plain (inl same) = inl same
-holds_part told_in file_in old new capture read plain (inr part) = inr (record { capture = capture; read = read; plain = plain; bytes = part.0; part = part.2 })
+pub holds_part : (told_in : Bool) (file_in old new : Option (List ℕ)) (capture : List ℕ) → (IsTrue told_in → file_in ≡ Some capture) → length capture ≤ 4294967296 → is_some (records_of capture) ≡ true → IsPartOf old new (wkp_capture (records_read capture)) → (new ≡ old) ⊎ HoldsPart told_in file_in new
+holds_part told_in file_in old new capture read within plain (inl same) = inl same
+holds_part told_in file_in old new capture read within plain (inr part) = inr (record { capture = capture; read = read; within = within; plain = plain; bytes = part.0; part = part.2 })
 
-pub stopped_part : (told_in : Bool) (file_in old mid new : Option (List ℕ)) (capture given : List ℕ) → (IsTrue told_in → file_in ≡ Some capture) → given ≡ capture → mid ≡ old → is_some (records_of capture) ≡ true → IsPartOf mid new (wkp_capture (records_read given)) → (new ≡ old) ⊎ HoldsPart told_in file_in new
-stopped_part told_in file_in old mid new capture given read is same plain part =
-    holds_part told_in file_in old new capture read plain
+pub stopped_part : (told_in : Bool) (file_in old mid new : Option (List ℕ)) (capture given : List ℕ) → (IsTrue told_in → file_in ≡ Some capture) → length capture ≤ 4294967296 → given ≡ capture → mid ≡ old → is_some (records_of capture) ≡ true → IsPartOf mid new (wkp_capture (records_read given)) → (new ≡ old) ⊎ HoldsPart told_in file_in new
+stopped_part told_in file_in old mid new capture given read within is same plain part =
+    holds_part told_in file_in old new capture read within plain
     (subst (λ (x : Option (List ℕ)). IsPartOf x new (wkp_capture (records_read capture))) same
     (subst (λ (x : List ℕ). IsPartOf mid new (wkp_capture (records_read x))) is part))

@@ -1,18 +1,18 @@
 -- A packet without the bytes of the link behind it, and its translated form.
-use Rattle.std.proofs.Common.{◌≡◌, ℕ, ◌+◌, ◌-◌, ◌≤◌, ◌<◌, List, ◌++◌, length, take, drop, Bool, true, false, ◌&&◌, ◌||◌, ◌==◌, nat_le, if◌then◌else◌, Some, None, refl, ap, sym, ◌∙◌, arith, length-append, length-take, length-drop}
+use Rattle.std.proofs.Common.{◌≡◌, ℕ, ◌+◌, ◌-◌, ◌≤◌, ◌<◌, List, length, take, drop, Bool, true, false, ◌&&◌, ◌||◌, ◌==◌, nat_le, if◌then◌else◌, Some, None, refl, ap, sym, ◌∙◌, arith, length-take, length-drop}
 use Rattle.std.proofs.lemmas.Bool.Decides.{nat_tests}
 use Rattle.std.proofs.lemmas.List.{drop-take, take-take, get_or-take}
 use Rattle.siit_model.specs.Bytes.{part, field8, field16, field32}
 use Rattle.siit_model.specs.Ipv4.{Ipv4Packet, ipv4_of, ipv4_fields, header_length_in, total_length_in, is_short4, is_bad_header4, is_whole4, total_length4}
-use Rattle.siit_model.specs.Ipv6.{ipv6_bytes, ipv6_header}
-use Rattle.siit_v4to6.specs.To6.{header_to_6, translated_to_6, upper_to_6, ends_of}
+use Rattle.siit_model.specs.Ipv6.{ipv6_bytes}
+use Rattle.siit_v4to6.specs.To6.{translated_to_6, ends_of}
 use Rattle.siit_v4to6.proofs.Good.{upper-length}
 use Rattle.siit_rules.specs.declared.rule.Rule.{Rule}
 use Rattle.siit_rules.specs.declared.rule.Rule.TheVariants.{Short4, BadHeader4}
 use Rattle.siit_views.specs.Headers.{HasLengths4, refusal4}
 use Rattle.std.specs.Bool.{OnFalse}
 use Rattle.siit_top.specs.Plain.{IsPlainPacket}
-use Rattle.siit_top.specs.Wkp.{image, is_plain, under_well_known, has_plain_header, has_plain_upper}
+use Rattle.siit_top.specs.Wkp.{image, is_plain, under_well_known, has_plain_upper}
 
 -- the lengths of the parts behind the header's first 20 bytes
 pub options_length : (bytes : List ℕ) → HasLengths4 bytes → length (ipv4_fields bytes).options + 20 ≡ header_length_in bytes

@@ -1,5 +1,5 @@
 -- Whole records, read one after another.
-use Rattle.std.proofs.Common.{◌≡◌, ℕ, zero, suc, ◌+◌, ◌-◌, ◌≤◌, ◌<◌, ◌*◌, List, [], ◌∷◌, length, take, drop, true, false, Option, Some, None, is_some, option_map, cond, refl, ap, sym, ◌∙◌, arith, length-drop, nat_le, nat_lt, ◌&&◌}
+use Rattle.std.proofs.Common.{◌≡◌, ℕ, zero, suc, ◌+◌, ◌-◌, ◌≤◌, ◌<◌, List, [], ◌∷◌, length, take, drop, true, false, Option, Some, None, is_some, option_map, cond, refl, ap, sym, ◌∙◌, arith, length-drop, nat_le, nat_lt, ◌&&◌}
 use Rattle.std.proofs.lemmas.Bool.Decides.{nat_tests}
 use Rattle.std.proofs.lemmas.List.{take_rest, drop-drop}
 use Rattle.siit_model.specs.Bytes.{part}

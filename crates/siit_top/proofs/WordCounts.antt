@@ -1,5 +1,5 @@
 -- As many words as no command has.
-use Rattle.std.proofs.Common.{◌≡◌, ℕ, suc, ◌<◌, ◌≤◌, List, [], ◌∷◌, length, map, None, refl, arith}
+use Rattle.std.proofs.Common.{◌≡◌, ℕ, ◌<◌, ◌≤◌, List, [], ◌∷◌, length, map, None, refl, arith}
 use Rattle.siit_top.specs.Words.{command_of}
 
 pub few_words : {A : Type 0} (f : A → List ℕ) (words : List A) → length words < 3 → command_of (map f words) ≡ None

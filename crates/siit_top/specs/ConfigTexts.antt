@@ -1,5 +1,5 @@
 -- The text of a configuration's fault. Devices are counted from 1, entries from 0.
-use Rattle.std.specs.Prelude.{ℕ, List, [], ◌∷◌, ◌++◌, codes}
+use Rattle.std.specs.Prelude.{ℕ, List, [], ◌++◌, codes}
 use Rattle.std.specs.Fmt.{decimal}
 use Rattle.siit_config.specs.declared.fault.ConfigFault.{ConfigFault}
 use Rattle.siit_config.specs.declared.fault.ConfigFault.TheVariants.{NotToml, Missing, WrongKind, BadValue, Unknown, ChainLength, MtuOrder, BadEam, Eam, NotSymmetric, NoMemory}

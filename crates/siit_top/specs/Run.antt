@@ -1,5 +1,5 @@
 -- What a run of `wkp` promises of its files, by its status.
-use Rattle.std.specs.Prelude.{◌≡◌, ◌⊎◌, ℕ, ◌≤◌, List, ◌++◌, length, take, Bool, true, nat_lt, if◌then◌else◌, Option, Some, None, is_some, IsTrue}
+use Rattle.std.specs.Prelude.{◌≡◌, ℕ, ◌≤◌, List, ◌++◌, length, take, Bool, true, false, nat_lt, if◌then◌else◌, Option, Some, None, is_some, IsTrue}
 use Rattle.siit_top.specs.PlainCapture.{records_of}
 use Rattle.siit_top.specs.Turns.{records_read}
 use Rattle.siit_top.specs.Wkp.{wkp_capture, wkp_line}
@@ -58,6 +58,18 @@ BeforeOutput NoMemory P = Unit {0}
 BeforeOutput (TooLong word) P = P
 BeforeOutput NoDevice P = P
 
+-- a fact for the status of a run whose IN is no plain capture
+abbrev pub OnBadCapture : Status → Type 0 → Type 0
+OnBadCapture Ok P = Unit {0}
+OnBadCapture BadWords P = Unit {0}
+OnBadCapture (BadConfig fault) P = Unit {0}
+OnBadCapture ReadFault P = Unit {0}
+OnBadCapture WriteFault P = Unit {0}
+OnBadCapture (BadCapture end place fault) P = P
+OnBadCapture NoMemory P = Unit {0}
+OnBadCapture (TooLong word) P = Unit {0}
+OnBadCapture NoDevice P = Unit {0}
+
 -- a fact for the statuses of a run that stopped, perhaps in the middle of OUT
 abbrev pub OnStopped : Status → Type 0 → Type 0
 OnStopped Ok P = Unit {0}
@@ -83,6 +95,14 @@ pub record Carries (told_in : Bool) (file_in : Option (List ℕ)) (told_out : Bo
 pub record HoldsPart (told_in : Bool) (file_in : Option (List ℕ)) (file_out : Option (List ℕ)) : Type 0 where
   pub capture : List ℕ
   pub read : IsTrue told_in → file_in ≡ Some capture
+  pub within : length capture ≤ 4294967296
   pub plain : is_some (records_of capture) ≡ true
   pub bytes : ℕ
   pub part : file_out ≡ Some (take bytes (wkp_capture (records_read capture)))
+
+-- IN was read as bytes that are no plain capture.
+pub record IsNoCapture (told_in : Bool) (file_in : Option (List ℕ)) : Type 0 where
+  pub bytes : List ℕ
+  pub read : IsTrue told_in → file_in ≡ Some bytes
+  pub within : length bytes ≤ 4294967296
+  pub not_plain : is_some (records_of bytes) ≡ false

@@ -1,5 +1,4 @@
-use Rattle.std.proofs.Common.{◌+◌, ◌≤◌, ◌<◌, length, arith}
-use Rattle.siit_top.specs.PlainCapture.{little32}
+use Rattle.std.proofs.Common.{arith}
 use Rattle.siit_top.proofs.Records.{IsFirstRecord-read}
 use Rattle.siit_top.proofs.capture.first_record.Goals as goal
 

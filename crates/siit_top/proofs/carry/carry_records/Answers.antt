@@ -1,4 +1,4 @@
-use Rattle.std.proofs.Common.{◌≡◌, ℕ, ◌+◌, ◌++◌, [], length, false, sym, ap, subst, ◌∙◌, arith, rules}
+use Rattle.std.proofs.Common.{◌≡◌, ◌+◌, ◌++◌, length, false, sym, ap, subst, ◌∙◌, arith, rules}
 use Rattle.std.specs.List.{flat_map}
 use Rattle.siit_top.specs.PlainCapture.{starts_with_record}
 use Rattle.siit_top.specs.Turns.{captured, records_in}

@@ -1,4 +1,4 @@
-use Rattle.std.proofs.Common.{◌≡◌, ◌*◌, ◌+◌, ◌-◌, ◌≤◌, [], ◌++◌, length, is_some, sym, ap, ◌∙◌, arith}
+use Rattle.std.proofs.Common.{◌*◌, [], ◌++◌, length, is_some, sym, ap, ◌∙◌, arith}
 use Rattle.std.specs.Option.{option_map_or}
 use Rattle.siit_top.specs.WrittenCapture.{little_bytes32, output_record}
 use Rattle.siit_top.proofs.carry.load_written.Goals as goal

@@ -1,14 +1,12 @@
-use Rattle.std.proofs.Common.{◌≡◌, ℕ, ◌-◌, List, Option, Some, [], length, take, drop, ap, sym, ◌∙◌, arith, length-drop}
+use Rattle.std.proofs.Common.{◌≡◌, ◌-◌, length, take, drop, ap, sym, ◌∙◌, arith, length-drop}
 use Rattle.std.specs.List.{flat_map}
 use Rattle.std.proofs.lemmas.List.{take_rest}
 use Rattle.std.proofs.lemmas.Result.{IfOk-weaker, on_ok_weaker, on_err_weaker}
 use Rattle.siit_word.specs.Files.{grown}
 use Rattle.siit_top.specs.Counted.{IsCount}
-use Rattle.siit_top.specs.PlainCapture.{Captured}
 use Rattle.siit_top.specs.Turns.{is_plain_from, records_in, records_read}
 use Rattle.siit_top.specs.Wkp.{written}
 use Rattle.siit_top.specs.WrittenCapture.{output_head}
-use Rattle.siit_top.specs.declared.carry.Counts.{Counts}
 use Rattle.siit_top.proofs.Carried.{GrowsByPrefix-same, on_err_from, told_still}
 use Rattle.siit_top.proofs.Outputs.{part_made, part_head, part_body, whole_body, head_long, behind_plain, records_behind, counts_of}
 use Rattle.siit_top.proofs.carry.write_capture.Goals as goal

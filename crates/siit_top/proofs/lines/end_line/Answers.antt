@@ -1,4 +1,4 @@
-use Rattle.std.proofs.Common.{◌≡◌, [], ◌∷◌, ◌++◌, ap, codes, ◌∙◌}
+use Rattle.std.proofs.Common.{[], ◌∷◌, ◌++◌, ap, codes, ◌∙◌}
 use Rattle.std.specs.Fmt.{decimal}
 use Rattle.siit_top.proofs.EndLines.{end_line-parts}
 use Rattle.siit_top.proofs.lines.end_line.Goals as goal

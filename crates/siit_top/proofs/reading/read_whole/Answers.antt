@@ -1,4 +1,4 @@
-use Rattle.std.proofs.Common.{◌≡◌, ◌≤◌, ◌<◌, ◌++◌, length, take, IsTrue, ◌∙◌, arith, rules, ap}
+use Rattle.std.proofs.Common.{◌≡◌, ◌<◌, ◌++◌, length, take, ◌∙◌, arith, rules, ap}
 use Rattle.std.proofs.lemmas.Grind.{common_steps}
 use Rattle.siit_top.proofs.Fronts.{whole_read, more_read, room_left}
 use Rattle.siit_top.proofs.reading.read_whole.Goals as goal
