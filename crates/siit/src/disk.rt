@@ -1,6 +1,6 @@
 // The files of the system, of whose bytes nothing is told. They stay open from call to call, and appended bytes are gathered.
 ghost use Rattle.siit_word.specs.Causes.{Rose};
-ghost use Rattle.std.specs.Prelude.{◌≡◌, ◌≤◌, min, length, IfOk, OnErr};
+ghost use Rattle.std.specs.Prelude.{◌≡◌, ◌≤◌, ◌<◌, ◌+◌, ◌-◌, ◌^◌, ◌++◌, [], min, length, is_err, true, IfOk, OnErr, OnOk};
 
 use siit_word::{Failed, Files};
 use std::alloc::Global;
@@ -33,7 +33,9 @@ struct Appender<F> {
 impl<F: Read + Seek> Reader<F> {
     // Reading on from the last place needs no seek.
     fn read(&mut self, at: u64, into: &mut [u8]) -> io::Result<usize>
-        ensures { IfOk result (λ n. n ≤ length into.new) }
+        ensures bound { IfOk result (λ n. n ≤ length into.new) }
+        ensures place { IfOk result (λ n. self.new.place ≡ min (at + n) (2 ^ 64 - 1)) }
+        ensures name { self.new.name ≡ self.old.name }
     {
         if self.place != at {
             self.file.seek(SeekFrom::Start(at))?;
@@ -46,7 +48,13 @@ impl<F: Read + Seek> Reader<F> {
 }
 
 impl<F: Write> Appender<F> {
-    fn flush(&mut self) -> io::Result<()> {
+    // Once bytes are lost, no flush succeeds.
+    fn flush(&mut self) -> io::Result<()>
+        ensures written { OnOk result (self.new.gathered.items ≡ []) }
+        ensures lost { OnErr result (self.new.is_broken ≡ true) }
+        ensures broken { self.old.is_broken ≡ true → is_err result ≡ true }
+        ensures name { self.new.name ≡ self.old.name }
+    {
         if self.is_broken {
             return Err(io::Error::from(ErrorKind::BrokenPipe));
         }
@@ -59,8 +67,15 @@ impl<F: Write> Appender<F> {
     fn append(&mut self, bytes: &[u8]) -> io::Result<usize>
         ensures bound { IfOk result (λ n. n ≤ length bytes.now) }
         ensures some { IfOk result (λ n. min 1 (length bytes.now) ≤ n) }
+        ensures gathered { OnOk result (length self.old.gathered.items + length bytes.now ≤ 2 ^ 18
+            → length bytes.now < 2 ^ 15 → self.new.gathered.items ≡ self.old.gathered.items ++ bytes.now) }
+        ensures full { OnOk result (2 ^ 18 < length self.old.gathered.items + length bytes.now
+            → length bytes.now < 2 ^ 15 → self.new.gathered.items ≡ bytes.now) }
+        ensures large { OnOk result (2 ^ 15 ≤ length bytes.now → self.new.gathered.items ≡ []) }
+        ensures broken { self.old.is_broken ≡ true → is_err result ≡ true }
+        ensures name { self.new.name ≡ self.old.name }
     {
-        let is_full = bytes.len() > ROOM - self.gathered.len().min(ROOM);
+        let is_full = self.gathered.len() + bytes.len() > ROOM;
         if self.is_broken || is_full || bytes.len() >= LARGE {
             self.flush()?;
         }

@@ -3,6 +3,9 @@
 
 mod disk;
 
+ghost use Rattle.siit_top.specs.Texts.{status_code};
+ghost use Rattle.std.specs.Prelude.{◌≡◌, ◌≢◌, ◌⊎◌, ◌≤◌, IfErr, OnErr, OnOk};
+
 use crate::disk::DiskFiles;
 use siit_top::{Status, siit_main, status_line};
 use siit_word::{Counter, Failed, NoMemory};
@@ -28,7 +31,11 @@ fn main(rt: HostRuntime) -> ExitCode {
 }
 
 /// Does what the words after the program's name say, and answers the exit status.
-fn run<R: Runtime + AllocGlobal>(rt: &R) -> u8 {
+fn run<R: Runtime + AllocGlobal>(rt: &R) -> u8
+    ensures bound { result ≤ 10 }
+    ensures no_one { result ≢ 1 }
+    ensures no_nine { result ≢ 9 }
+{
     let words = match words_of(rt) {
         Ok(words) => words,
         Err(status) => return report(rt, status),
@@ -41,7 +48,9 @@ fn run<R: Runtime + AllocGlobal>(rt: &R) -> u8 {
 }
 
 /// The words after the program's name. One that is no text is no word of a command.
-fn words_of<R: Env + AllocGlobal>(rt: &R) -> Result<Vec<String>, Status> {
+fn words_of<R: Env + AllocGlobal>(rt: &R) -> Result<Vec<String>, Status>
+    ensures { IfErr result (λ status. (status ≡ Status.BadWords) ⊎ (status ≡ Status.NoMemory)) }
+{
     let mut words = Vec::new(rt.alloc());
     match env::args(rt) {
         Ok(all) => {
@@ -57,7 +66,11 @@ fn words_of<R: Env + AllocGlobal>(rt: &R) -> Result<Vec<String>, Status> {
     }
 }
 
-fn translate<R: Runtime + AllocGlobal>(rt: &R, words: &[String]) -> u8 {
+fn translate<R: Runtime + AllocGlobal>(rt: &R, words: &[String]) -> u8
+    ensures bound { result ≤ 10 }
+    ensures no_one { result ≢ 1 }
+    ensures no_nine { result ≢ 9 }
+{
     let alloc = rt.alloc();
     let Ok(own) = rt.clone() else {
         return report(rt, Status::NoMemory);
@@ -66,15 +79,28 @@ fn translate<R: Runtime + AllocGlobal>(rt: &R, words: &[String]) -> u8 {
     let mut out = Vec::new(alloc);
     let status = siit_main(alloc, words, &mut files, &mut Counter::new(), &mut out);
     // What was gathered reaches the files before anything is reported.
-    match (status, files.flush()) {
-        (Status::Ok, Ok(())) => print(rt, &out, Status::Ok),
-        (Status::Ok, Err(Failed)) => report(rt, Status::WriteFault),
-        (status, _) => report(rt, status),
+    match ended(status, files.flush()) {
+        Status::Ok => print(rt, &out, Status::Ok),
+        status => report(rt, status),
+    }
+}
+
+/// How a run ended, once the bytes that were gathered are written, or lost.
+fn ended(status: Status, flushed: Result<(), Failed>) -> Status
+    ensures written { OnOk flushed (result ≡ status) }
+    ensures lost { OnErr flushed (status ≡ Status.Ok → result ≡ Status.WriteFault) }
+    ensures other { status ≢ Status.Ok → result ≡ status }
+{
+    match (status, flushed) {
+        (Status::Ok, Err(Failed)) => Status::WriteFault,
+        (status, _) => status,
     }
 }
 
 /// Prints the line of a status, and answers its code.
-fn report<R: Runtime + AllocGlobal>(rt: &R, status: Status) -> u8 {
+fn report<R: Runtime + AllocGlobal>(rt: &R, status: Status) -> u8
+    ensures { (result ≡ status_code status) ⊎ (result ≡ status_code Status.WriteFault) }
+{
     match status_line(rt.alloc(), &status) {
         Ok(line) => print(rt, &line, status),
         Err(NoMemory) => status.code(),
@@ -82,7 +108,9 @@ fn report<R: Runtime + AllocGlobal>(rt: &R, status: Status) -> u8 {
 }
 
 /// Prints a text, and answers the code of the status, or that of a write fault where the text can't be written.
-fn print<R: Print>(rt: &R, text: &[u8], status: Status) -> u8 {
+fn print<R: Print>(rt: &R, text: &[u8], status: Status) -> u8
+    ensures { (result ≡ status_code status) ⊎ (result ≡ status_code Status.WriteFault) }
+{
     match rt.write_all(text) {
         Ok(()) => status.code(),
         Err(_) => Status::WriteFault.code(),
