@@ -1,6 +1,6 @@
 // The files of the system, of whose bytes nothing is told. They stay open from call to call, and appended bytes are gathered.
 ghost use Rattle.siit_word.specs.Causes.{Rose};
-ghost use Rattle.std.specs.Prelude.{◌≡◌, ◌≤◌, ◌<◌, ◌+◌, ◌-◌, ◌^◌, ◌++◌, [], min, length, is_err, true, IfOk, OnErr, OnOk};
+ghost use Rattle.std.specs.Prelude.{◌≡◌, ◌≤◌, ◌<◌, ◌+◌, ◌-◌, ◌^◌, ◌++◌, [], All, min, length, is_err, true, IfOk, OnErr, OnOk};
 
 use siit_word::{Failed, Files};
 use std::alloc::Global;
@@ -52,7 +52,7 @@ impl<F: Write> Appender<F> {
     fn flush(&mut self) -> io::Result<()>
         ensures written { OnOk result (self.new.gathered.items ≡ []) }
         ensures lost { OnErr result (self.new.is_broken ≡ true) }
-        ensures broken { self.old.is_broken ≡ true → is_err result ≡ true }
+        ensures broken { self.old.is_broken ≡ true → (is_err result ≡ true) × (self.new.is_broken ≡ true) }
         ensures name { self.new.name ≡ self.old.name }
     {
         if self.is_broken {
@@ -72,7 +72,7 @@ impl<F: Write> Appender<F> {
         ensures full { OnOk result (2 ^ 18 < length self.old.gathered.items + length bytes.now
             → length bytes.now < 2 ^ 15 → self.new.gathered.items ≡ bytes.now) }
         ensures large { OnOk result (2 ^ 15 ≤ length bytes.now → self.new.gathered.items ≡ []) }
-        ensures broken { self.old.is_broken ≡ true → is_err result ≡ true }
+        ensures broken { self.old.is_broken ≡ true → (is_err result ≡ true) × (self.new.is_broken ≡ true) }
         ensures name { self.new.name ≡ self.old.name }
     {
         let is_full = self.gathered.len() + bytes.len() > ROOM;
@@ -98,7 +98,10 @@ fn write_some<F: Write>(file: &mut F, bytes: &[u8]) -> io::Result<usize>
     Ok(count)
 }
 
-fn flush_all<F: Write>(appenders: &mut [Appender<F>]) -> io::Result<()> {
+#[tactic(auto, using(std::proofs::lemmas::List::take_all))]
+fn flush_all<F: Write>(appenders: &mut [Appender<F>]) -> io::Result<()>
+    ensures { OnOk result (All (λ a. a.gathered.items ≡ []) appenders.new) }
+{
     let mut flushed = Ok(());
     for appender in appenders {
         if appender.flush().is_err() {
@@ -122,7 +125,11 @@ pub struct DiskFiles<R: rt::Files> {
 
 impl<R: rt::Files> DiskFiles<R> {
     /// No file is open yet.
-    pub fn new(rt: R, alloc: Global) -> Self {
+    pub fn new(rt: R, alloc: Global) -> Self
+        ensures readers { result.readers.items ≡ [] }
+        ensures appenders { result.appenders.items ≡ [] }
+        ensures faults { (result.read_faults ≡ 0) × (result.write_faults ≡ 0) }
+    {
         DiskFiles {
             rt,
             alloc,
@@ -135,6 +142,7 @@ impl<R: rt::Files> DiskFiles<R> {
 
     /// Writes the bytes that were gathered. A program calls it before it says that it succeeded.
     pub fn flush(&mut self) -> Result<(), Failed>
+        ensures written { OnOk result (All (λ a. a.gathered.items ≡ []) self.new.appenders.items) }
         ensures cause { OnErr result (Rose self.old.write_faults self.new.write_faults) }
         ensures reads { self.new.read_faults ≡ self.old.read_faults }
         ensures writes { self.old.write_faults ≤ self.new.write_faults }
@@ -263,6 +271,7 @@ mod tests {
     use std::fs;
     use std::test::Fail;
 
+    // Two files are kept apart, whether their bytes are gathered or written at once.
     #[test]
     fn appended_bytes_are_read(rt: HostRuntime) -> Result<(), Fail> {
         let name = "disk_files_test.bin";
@@ -280,7 +289,14 @@ mod tests {
         assert_eq!(rt; files.append(name, &[7])?, 1);
         assert_eq!(rt; files.read(name, 4, &mut into)?, 4);
         assert_eq!(rt; into, [5, 6, 6, 6]);
+        let other = "disk_files_other.bin";
+        assert_eq!(rt; files.append(other, &[8, 9])?, 2);
+        assert_eq!(rt; files.read(other, 0, &mut into)?, 2);
+        assert_eq!(rt; into, [8, 9, 6, 6]);
+        assert_eq!(rt; files.read(name, 0, &mut into)?, 4);
+        assert_eq!(rt; into, [1, 2, 3, 4]);
         files.flush()?;
+        fs::remove_file(&rt, other)?;
         assert_eq!(rt; fs::metadata(&rt, name)?.len(), 6 + LARGE as u64);
         assert!(rt; files.append("no_such_folder/file.bin", &[1]).is_err());
         fs::remove_file(&rt, name)?;

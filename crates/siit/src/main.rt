@@ -2,29 +2,20 @@
 #![tactic(auto)]
 
 mod disk;
+mod own_words;
 
 ghost use Rattle.siit_top.specs.Texts.{status_code};
-ghost use Rattle.std.specs.Prelude.{◌≡◌, ◌≢◌, ◌⊎◌, ◌≤◌, IfErr, OnErr, OnOk};
+ghost use Rattle.std.specs.Prelude.{◌≡◌, ◌≢◌, ◌⊎◌, ◌≤◌, [], All, IfErr, OnErr, OnOk};
 
 use crate::disk::DiskFiles;
+use crate::own_words::own_word;
 use siit_top::{Status, siit_main, status_line};
 use siit_word::{Counter, Failed, NoMemory};
-use std::env;
+use std::alloc::Global;
 use std::io::ErrorKind;
 use std::process::ExitCode;
 use std::rt::{Env, Runtime};
-
-const HELP: &str = "\
-siit translates captures between IPv4 and IPv6 without state (RFC 7915).
-
-usage:
-  siit wkp IN OUT                   translates the TCP and UDP packets of the capture IN under 64:ff9b::/96 to OUT
-  siit map CONFIG DEVICE ADDRESS    prints what a device of a configuration maps an address to
-  siit --help                       prints this
-  siit --version                    prints the version
-";
-
-const VERSION: &str = "siit 0.1.0\n";
+use std::{env, io, rt};
 
 fn main(rt: HostRuntime) -> ExitCode {
     ExitCode::from(run(&rt))
@@ -40,10 +31,9 @@ fn run<R: Runtime + AllocGlobal>(rt: &R) -> u8
         Ok(words) => words,
         Err(status) => return report(rt, status),
     };
-    match words.as_slice() {
-        [word] if word.as_str() == "--help" => print(rt, HELP.as_bytes(), Status::Ok),
-        [word] if word.as_str() == "--version" => print(rt, VERSION.as_bytes(), Status::Ok),
-        words => translate(rt, words),
+    match own_word(&words) {
+        Some(word) => print(rt, word.text().as_bytes(), Status::Ok),
+        None => run_command(rt, &words),
     }
 }
 
@@ -66,7 +56,8 @@ fn words_of<R: Env + AllocGlobal>(rt: &R) -> Result<Vec<String>, Status>
     }
 }
 
-fn translate<R: Runtime + AllocGlobal>(rt: &R, words: &[String]) -> u8
+/// Does what the words ask of the top call, and answers the exit status.
+fn run_command<R: Runtime + AllocGlobal>(rt: &R, words: &[String]) -> u8
     ensures bound { result ≤ 10 }
     ensures no_one { result ≢ 1 }
     ensures no_nine { result ≢ 9 }
@@ -75,19 +66,29 @@ fn translate<R: Runtime + AllocGlobal>(rt: &R, words: &[String]) -> u8
     let Ok(own) = rt.clone() else {
         return report(rt, Status::NoMemory);
     };
-    let mut files = DiskFiles::new(own, alloc);
     let mut out = Vec::new(alloc);
-    let status = siit_main(alloc, words, &mut files, &mut Counter::new(), &mut out);
-    // What was gathered reaches the files before anything is reported.
-    match ended(status, files.flush()) {
+    match run_over(alloc, words, &mut DiskFiles::new(own, alloc), &mut out) {
         Status::Ok => print(rt, &out, Status::Ok),
         status => report(rt, status),
     }
 }
 
+/// Does what the words ask over these files. After `Ok` no byte that was appended waits to be written.
+fn run_over<R: rt::Files>(
+    alloc: Global,
+    words: &[String],
+    files: &mut DiskFiles<R>,
+    out: &mut Vec<u8>,
+) -> Status
+    ensures { result ≡ Status.Ok → All (λ a. a.gathered.items ≡ []) files.new.appenders.items }
+{
+    let status = siit_main(alloc, words, files, &mut Counter::new(), out);
+    ended(status, files.flush())
+}
+
 /// How a run ended, once the bytes that were gathered are written, or lost.
 fn ended(status: Status, flushed: Result<(), Failed>) -> Status
-    ensures written { OnOk flushed (result ≡ status) }
+    ensures flushed { OnOk flushed (result ≡ status) }
     ensures lost { OnErr flushed (status ≡ Status.Ok → result ≡ Status.WriteFault) }
     ensures other { status ≢ Status.Ok → result ≡ status }
 {
@@ -107,11 +108,19 @@ fn report<R: Runtime + AllocGlobal>(rt: &R, status: Status) -> u8
     }
 }
 
-/// Prints a text, and answers the code of the status, or that of a write fault where the text can't be written.
+/// Prints a text, and answers the exit status.
 fn print<R: Print>(rt: &R, text: &[u8], status: Status) -> u8
     ensures { (result ≡ status_code status) ⊎ (result ≡ status_code Status.WriteFault) }
 {
-    match rt.write_all(text) {
+    exit_code(status, rt.write_all(text))
+}
+
+/// The code of the status, or that of a write fault where its text wasn't printed.
+fn exit_code(status: Status, printed: io::Result<()>) -> u8
+    ensures printed { OnOk printed (result ≡ status_code status) }
+    ensures lost { OnErr printed (result ≡ status_code Status.WriteFault) }
+{
+    match printed {
         Ok(()) => status.code(),
         Err(_) => Status::WriteFault.code(),
     }
