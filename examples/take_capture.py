@@ -1,9 +1,11 @@
 #!/usr/bin/env python3
 """Takes the capture `exchange/in.pcap`: real programs talk over the loopback interface, and what they send is kept.
 
-curl fetches a page from Python's web server, and logger sends two lines to a port where nobody listens. The frames lose their
-Ethernet headers (link type 101, raw IP), the two ends get global addresses in place of 127.0.0.1, and all checksums are put
-right afterwards, in quoted packets too. Needs root, curl and logger. Usage: take_capture.py OUT
+curl fetches a page from Python's web server, and logger sends two lines to a port where nobody listens, without the name of the
+machine. What others send over the interface isn't kept. The frames lose their Ethernet headers (link type 101, raw IP), the two
+ends get addresses in place of 127.0.0.1, and all checksums are put right afterwards, in quoted packets too. The addresses are
+stand-ins: they are global, as `siit wkp` asks, and belong to two root name servers, which sent none of this. Needs root, curl and
+logger. Usage: take_capture.py OUT
 """
 import os
 import socket
@@ -26,6 +28,16 @@ def checksum(data):
     while total > 0xFFFF:
         total = (total & 0xFFFF) + (total >> 16)
     return 0xFFFF - total
+
+
+def is_ours(packet):
+    """Whether a packet is of this talk: to or from a port of the server, or an ICMP error about one."""
+    length = (packet[0] & 15) * 4
+    protocol = packet[9]
+    upper = packet[length:]
+    if protocol == 1:
+        return upper[0] == 3 and is_ours(upper[8:])
+    return protocol in (6, 17) and not SERVER_PORTS.isdisjoint(struct.unpack(">HH", upper[:4]))
 
 
 def rewritten(packet):
@@ -66,7 +78,7 @@ def frames_of(talk):
                 frame, origin = listener.recvfrom(65536)
             except socket.timeout:
                 continue
-            if origin[2] != socket.PACKET_OUTGOING:
+            if origin[2] != socket.PACKET_OUTGOING and is_ours(frame[14:]):
                 frames.append((time.time_ns(), frame[14:]))
 
     thread = threading.Thread(target=listen)
@@ -90,7 +102,8 @@ def talk():
         time.sleep(1)
         subprocess.run(["curl", "-s", "-o", os.devnull, "http://127.0.0.1:8080/index.html"], check=True)
         for line in ["interface up", "one more line of the log"]:
-            subprocess.run(["logger", "-n", "127.0.0.1", "-P", "5514", "-d", "-t", "siit", line], check=True)
+            server_words = ["-n", "127.0.0.1", "-P", "5514", "-d"]
+            subprocess.run(["logger", *server_words, "--rfc5424=nohost", "-t", "siit", line], check=True)
         server.terminate()
 
 
