@@ -1,0 +1,112 @@
+#!/usr/bin/env python3
+"""Compares what the examples expect with expected.py, and with the program as `rt try` builds it without a proof. Leaves no file behind.
+
+The transcript of a folder, expected.txt, has `$ ./siit WORDS`, the line that is printed, and `status N` where that isn't 0. A capture
+that a run writes to out.pcap has to be the folder's expected.pcap. expected.py judges no faulty configuration, and reads none at all before
+Python 3.11. Without rt the program isn't asked.
+"""
+import importlib.util
+import re
+import shutil
+import subprocess
+import sys
+import tempfile
+from pathlib import Path
+
+sys.dont_write_bytecode = True
+import expected
+
+TOP = Path(__file__).resolve().parent.parent
+
+
+class Case:
+    """A command of a transcript, and what it has to print, to answer and to write."""
+
+    def __init__(self, folder, words):
+        self.folder, self.words, self.line, self.status = folder, words, "", 0
+
+    def words_with(self, out):
+        """The words, with whole paths and with another name for out.pcap."""
+        return [str(out if word == "out.pcap" else TOP / word if word.startswith("examples/") else word) for word in self.words]
+
+    def differences(self, line, status, out):
+        if line != self.line:
+            yield f"printed {line!r}, expected {self.line!r}"
+        if status != self.status:
+            yield f"status {status}, expected {self.status}"
+        is_written = self.words[0] == "wkp" and self.status == 0
+        if out.exists() != is_written or is_written and out.read_bytes() != (self.folder / "expected.pcap").read_bytes():
+            yield "out.pcap isn't as expected"
+
+
+def read_cases():
+    cases = []
+    for transcript in sorted(TOP.glob("examples/*/expected.txt")):
+        for line in transcript.read_text().splitlines():
+            if line.startswith("$ ./siit "):
+                cases.append(Case(transcript.parent, line.split()[2:]))
+            elif line.startswith("status "):
+                cases[-1].status = int(line.split()[1])
+            else:
+                cases[-1].line += line + "\n"
+    return cases
+
+
+def is_for_script(case):
+    has_toml = importlib.util.find_spec("tomllib") is not None
+    return case.words[0] == "wkp" or has_toml and not case.line.startswith("siit: bad config")
+
+
+def by_script(case, out):
+    """The line of expected.py and the status that goes with it."""
+    command, *words = case.words_with(out)
+    line = {"wkp": expected.wkp, "map": expected.map_address}[command](*words)
+    return line + "\n", {"siit: no device": 10, "siit: bad capture: left at 0: NotBuilt": 6}.get(line, 0)
+
+
+def by_program(cases, work):
+    """What the program printed and answered for each case, all in one run of `rt try`."""
+    folder = work / "cases"
+    folder.mkdir()
+    for number, case in enumerate(cases):
+        (folder / f"{number:02}").touch()
+        (folder / f"{number:02}.args").write_text("\n".join(case.words_with(work / f"{number:02}.pcap")) + "\n")
+    run = subprocess.run(
+        ["rt", "try", "--cases", str(folder)],
+        cwd=TOP / "crates/siit",
+        stdout=subprocess.PIPE,
+        stderr=subprocess.STDOUT,
+        text=True,
+    )
+    answers = re.findall(r"^== (\d+)\n(.*\n)case=\1 run=ended status=(\d+) ", run.stdout, re.M)
+    if len(answers) != len(cases):
+        sys.exit(f"{run.stdout}examples: the program didn't answer each of the {len(cases)} commands")
+    return [(line, int(status)) for _, line, status in answers]
+
+
+def main():
+    cases = read_cases()
+    failed = False
+
+    def compare(who, case, answer, out):
+        nonlocal failed
+        for difference in case.differences(*answer, out):
+            print(f"examples: {who}: siit {' '.join(case.words)}: {difference}")
+            failed = True
+
+    with tempfile.TemporaryDirectory() as name:
+        work = Path(name)
+        for case in filter(is_for_script, cases):
+            out = work / "out.pcap"
+            compare("expected.py", case, by_script(case, out), out)
+            out.unlink(missing_ok=True)
+        if shutil.which("rt"):
+            for number, answer in enumerate(by_program(cases, work)):
+                compare("the program", cases[number], answer, work / f"{number:02}.pcap")
+    if failed:
+        sys.exit(1)
+    print(f"examples: {len(cases)} commands answer as expected")
+
+
+if __name__ == "__main__":
+    main()
