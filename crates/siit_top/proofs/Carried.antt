@@ -1,12 +1,11 @@
 -- Records carried one after another.
-use Rattle.std.proofs.Common.{◌≡◌, ℕ, zero, suc, ◌+◌, ◌≤◌, ◌<◌, List, [], ◌∷◌, ◌++◌, length, take, drop, Bool, true, false, not, Option, Some, None, is_some, option_map, unwrap_or, IsTrue, Result, Ok, Err, OnErr, if◌then◌else◌, count_by, refl, ap, sym, subst, ◌∙◌, arith, append_assoc, append-nil, nat_le, nat_lt, ◌&&◌, ◌^◌, length-append, length-drop}
+use Rattle.std.proofs.Common.{◌≡◌, ℕ, zero, suc, ◌+◌, ◌≤◌, ◌<◌, List, [], ◌∷◌, ◌++◌, length, take, drop, Bool, true, false, not, Option, Some, None, is_some, option_map, unwrap_or, IsTrue, Result, Ok, Err, OnErr, if◌then◌else◌, count_by, refl, ap, sym, subst, ◌∙◌, arith, append_assoc, ◌^◌, length-append, length-drop}
 use Rattle.std.proofs.lemmas.List.{take_all, drop_at, drop-drop, take-append-le}
 use Rattle.std.proofs.Math.Seq.{take-add}
-use Rattle.std.proofs.lemmas.Bool.Decides.{nat_tests}
 use Rattle.std.proofs.lemmas.List.Sums.{count_by-le-length, sum_by-cons}
 use Rattle.siit_word.specs.Files.{grown, GrowsBy, GrowsByPrefix}
-use Rattle.siit_top.specs.Counted.{counted, is_dropped, IsCount}
-use Rattle.siit_top.specs.PlainCapture.{Captured, first_record, behind_record, starts_with_record, records_from, little32}
+use Rattle.siit_top.specs.Counted.{counted, is_dropped}
+use Rattle.siit_top.specs.PlainCapture.{Captured, first_record, behind_record, starts_with_record, records_from}
 use Rattle.siit_top.specs.Turns.{captured, is_plain_from, records_in, IsFirstRecord}
 use Rattle.siit_top.specs.Wkp.{is_carried, written}
 use Rattle.siit_top.specs.declared.capture.Record.{Record}
@@ -68,9 +67,6 @@ pub record IsPlace (all todo : List ℕ) (m : ℕ) : Type 0 where
   pub within : m ≤ length all
   pub left : todo ≡ drop m all
 
-pub IsPlace-start : (all : List ℕ) → IsPlace all all 0
-IsPlace-start all = record { within = omega arith; left = refl }
-
 pub taken_more : (all : List ℕ) (m k : ℕ) (now more : List ℕ) → drop m all ≡ now ++ more → k ≤ length now → take (m + k) all ≡ take m all ++ take k now
 taken_more all m k now more is fits =
     take-add m k all ∙ ap (λ xs. take m all ++ take k xs) is ∙ ap (λ xs. take m all ++ xs) (take-append-le k now more fits)
@@ -92,9 +88,6 @@ pub record IsCounted (counts : Counts) (todo all : List Captured) : Type 0 where
   pub carried : counts.written + count_by is_carried todo ≡ count_by is_carried all
   pub dropped : counts.drops + count_by is_dropped todo ≡ count_by is_dropped all
 
-pub IsCounted-start : (all : List Captured) → IsCounted (record { read = 0; written = 0; drops = 0 }) all all
-IsCounted-start all = record { read = omega arith; carried = omega arith; dropped = omega arith }
-
 counted_one : (read written drops length_more carried_more dropped_more all_read all_carried all_dropped : ℕ) (test : Bool) → read + suc length_more ≡ all_read → written + ((if test then 1 else 0) + carried_more) ≡ all_carried → drops + ((if not test then 1 else 0) + dropped_more) ≡ all_dropped → ((read + 1) + length_more ≡ all_read) × ((written + (if test then 1 else 0)) + carried_more ≡ all_carried) × ((drops + (if test then 0 else 1)) + dropped_more ≡ all_dropped)
 counted_one read written drops a b c x y z true h k l = (omega arith, omega arith, omega arith)
 counted_one read written drops a b c x y z false h k l = (omega arith, omega arith, omega arith)
@@ -113,28 +106,6 @@ IsCounted-more counts carried first todo more all h is test =
       dropped = ap (λ b. (counts.drops + (if b then 0 else 1)) + count_by is_dropped more) test ∙ one.2;
     }
 
-pub IsCounted-end : (counts : Counts) (todo all : List Captured) → IsCounted counts todo all → todo ≡ [] → IsCount counts all
-IsCounted-end counts todo all h is =
-    record {
-      all = omega (arith, h.read, ap length is);
-      carried = omega (arith, h.carried, ap (count_by is_carried) is);
-      dropped = omega (arith, h.dropped, ap (count_by is_dropped) is);
-    }
-
-split_whole : (n m k : ℕ) → (nat_le 16 n && nat_lt m 1000000 && nat_le k 262144 && nat_le (16 + k) n) ≡ true → (16 ≤ n) × (m < 1000000) × (16 + k ≤ n)
-split_whole n m k h = grind (arith, nat_tests)
-
--- what a record found at the front says of the bytes
-pub in_second : (rest : List ℕ) (found : Record) (behind : List ℕ) → IsFirstRecord rest found behind → found.microseconds < 1000000
-in_second rest found behind h =
-    let whole = split_whole (length rest) (little32 rest 4) (little32 rest 8) h.whole in
-    omega (arith, whole.1, ap (λ c. c.microseconds) h.first)
-
-pub behind_shorter : (rest : List ℕ) (found : Record) (behind : List ℕ) → IsFirstRecord rest found behind → length behind < length rest
-behind_shorter rest found behind h =
-    let whole = split_whole (length rest) (little32 rest 4) (little32 rest 8) h.whole in
-    omega (arith, whole.0, ap length h.left, length-drop (16 + little32 rest 8) rest)
-
 -- one more record fits the counts
 pub counts_fit : (counts : Counts) (first : Captured) (todo more all : List Captured) (n : ℕ) → IsCounted counts todo all → todo ≡ first ∷ more → length all ≤ n → n ≤ 4294967296 → (counts.read + 1 < 2 ^ 64) × (counts.written + 1 < 2 ^ 64) × (counts.drops + 1 < 2 ^ 64)
 counts_fit counts first todo more all n h is few within =
@@ -142,11 +113,6 @@ counts_fit counts first todo more all n h is few within =
     let carried = count_by-le-length is_carried all in
     let dropped = count_by-le-length is_dropped all in
     (omega (arith, ap length is), omega (arith, h.carried), omega (arith, h.dropped))
-
--- a file that grew by nothing
-pub GrowsBy-nothing : (file : Option (List ℕ)) (bytes : List ℕ) → bytes ≡ [] → GrowsBy file file bytes
-GrowsBy-nothing None bytes is = ap (grown None) (sym is)
-GrowsBy-nothing (Some held) bytes is = ap Some (sym (append-nil held)) ∙ ap (λ xs. Some (held ++ xs)) (sym is)
 
 pub GrowsByPrefix-same : (old new : Option (List ℕ)) (a b : List ℕ) → a ≡ b → GrowsByPrefix old new b → GrowsByPrefix old new a
 GrowsByPrefix-same old new a b is h = subst (λ (xs : List ℕ). GrowsByPrefix old new xs) (sym is) h

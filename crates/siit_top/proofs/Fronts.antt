@@ -1,5 +1,5 @@
 -- A file that is read piece by piece.
-use Rattle.std.proofs.Common.{◌≡◌, ℕ, ◌+◌, ◌-◌, ◌≤◌, ◌<◌, List, [], ◌++◌, length, take, drop, Option, Some, None, refl, ap, sym, subst, ◌∙◌, arith, length-append, length-take}
+use Rattle.std.proofs.Common.{◌≡◌, ℕ, ◌+◌, ◌-◌, ◌≤◌, ◌<◌, List, ◌++◌, length, take, drop, Option, Some, None, refl, ap, sym, subst, ◌∙◌, arith, length-append, length-take}
 use Rattle.std.proofs.lemmas.List.{take_all}
 use Rattle.std.proofs.Math.Seq.{take-add}
 use Rattle.siit_word.specs.Files.{held, Copies}
@@ -8,9 +8,6 @@ use Rattle.siit_word.specs.Files.{held, Copies}
 pub record IsFront (file : Option (List ℕ)) (bytes : List ℕ) : Type 0 where
   pub first : bytes ≡ take (length bytes) (held file)
   pub within : length bytes ≤ length (held file)
-
-pub IsFront-none : (file : Option (List ℕ)) → IsFront file []
-IsFront-none file = record { first = refl; within = omega arith }
 
 front_more : (whole bytes : List ℕ) (n : ℕ) (into : List ℕ) → bytes ≡ take (length bytes) whole → length bytes ≤ length whole → take n into ≡ take n (drop (length bytes) whole) → n ≤ length whole - length bytes → n ≤ length into → IsFront (Some whole) (bytes ++ take n into)
 front_more whole bytes n into first within copied room fits =

@@ -1,18 +1,15 @@
 -- How far OUT is written.
-use Rattle.std.proofs.Common.{◌≡◌, ◌⊎◌, IsTrue, nat_lt, ℕ, ◌+◌, ◌<◌, ◌≤◌, List, [], ◌++◌, length, take, drop, Bool, true, false, ◌&&◌, nat_le, Option, Some, None, is_some, if◌then◌else◌, count_by, Err, inl, inr, refl, ap, sym, subst, ◌∙◌, arith, length-append, length-drop, unwrap_or}
+use Rattle.std.proofs.Common.{◌≡◌, ◌⊎◌, IsTrue, ℕ, ◌+◌, ◌≤◌, List, [], ◌++◌, length, take, drop, Bool, true, false, ◌&&◌, nat_le, Option, Some, None, is_some, if◌then◌else◌, Err, inl, inr, refl, ap, sym, subst, ◌∙◌, arith, length-append, length-drop, unwrap_or}
 use Rattle.std.proofs.lemmas.Bool.Decides.{nat_tests}
 use Rattle.std.proofs.lemmas.List.{take_all, take-append-le, take_at, drop_at}
 use Rattle.std.proofs.Math.Seq.{take-add}
-use Rattle.siit_word.specs.Files.{grown, held, GrowsBy, GrowsByPrefix, MadeEmpty}
+use Rattle.siit_word.specs.Files.{grown, GrowsBy, GrowsByPrefix, MadeEmpty}
 use Rattle.siit_word.specs.declared.files.Failed.{Failed}
 use Rattle.siit_top.specs.Counted.{IsCount, IsPartOf}
 use Rattle.siit_top.specs.PlainCapture.{Captured, is_plain_head, records_from, records_of}
 use Rattle.siit_top.specs.Turns.{is_plain_from, records_in, records_read}
-use Rattle.siit_top.specs.Wkp.{end_line, is_carried, wkp_capture, wkp_line}
-use Rattle.siit_top.specs.Run.{judgement, HoldsPart}
-use Rattle.siit_top.specs.declared.status.End.TheVariants.{Left}
-use Rattle.siit_top.specs.declared.status.CaptureFault.TheVariants.{NotBuilt}
-use Rattle.siit_top.specs.declared.status.Status.TheVariants.{Ok as Done, BadCapture, TooLong}
+use Rattle.siit_top.specs.Wkp.{wkp_capture}
+use Rattle.siit_top.specs.Run.{HoldsPart}
 use Rattle.siit_top.specs.declared.carry.Counts.{Counts}
 use Rattle.siit_top.proofs.Records.{turns_enough, plain_behind_head}
 
@@ -68,34 +65,8 @@ pub records_behind : (bytes : List ℕ) → is_some (records_of bytes) ≡ true 
 records_behind bytes h =
     rw (head_there bytes h) (ap (λ o. unwrap_or o []) (turns_enough (length (drop 24 bytes)) (length bytes) (drop 24 bytes) (omega arith) (omega (arith, length-drop 24 bytes))))
 
-pub counted_line : (counts : Counts) (records : List Captured) → IsCount counts records → end_line counts.read 0 0 counts.written counts.drops ≡ wkp_line records
-counted_line counts records h =
-    ap (λ n. end_line n 0 0 counts.written counts.drops) h.all
-    ∙ ap (λ n. end_line (length records) 0 0 n counts.drops) h.carried
-    ∙ ap (λ n. end_line (length records) 0 0 (count_by is_carried records) n) h.dropped
-
 pub counts_of : (counts : Counts) (a b : List Captured) → a ≡ b → IsCount counts a → IsCount counts b
 counts_of counts a b is h = subst (λ (xs : List Captured). IsCount counts xs) is h
-
-lt_test : (m n : ℕ) → m < n → nat_lt m n ≡ true
-lt_test m n h = grind (arith, nat_tests)
-
-le_test : (m n : ℕ) → n ≤ m → nat_lt m n ≡ false
-le_test m n h = grind (arith, nat_tests)
-
--- the three answers that bytes decide
-pub judged_long : (bytes : List ℕ) → 4294967296 < length bytes → TooLong 1 ≡ judgement bytes
-judged_long bytes h = rw (lt_test 4294967296 (length bytes) h) refl
-
-pub judged_fault : (file : Option (List ℕ)) (bytes : List ℕ) (plain : Bool) → file ≡ Some bytes → length bytes ≤ 4294967296 → plain ≡ is_some (records_of bytes) → plain ≡ false → BadCapture Left 0 NotBuilt ≡ judgement (held file)
-judged_fault file bytes plain is short same fails =
-    let fault : BadCapture Left 0 NotBuilt ≡ judgement bytes = rw (le_test 4294967296 (length bytes) short, sym same ∙ fails) refl in
-    fault ∙ ap (λ o. judgement (held o)) (sym is)
-
-pub judged_plain : (file : Option (List ℕ)) (bytes : List ℕ) → file ≡ Some bytes → length bytes ≤ 4294967296 → is_some (records_of bytes) ≡ true → Done ≡ judgement (held file)
-judged_plain file bytes is short plain =
-    let done : Done ≡ judgement bytes = rw (le_test 4294967296 (length bytes) short, plain) refl in
-    done ∙ ap (λ o. judgement (held o)) (sym is)
 
 -- a part of OUT, as the run says it
 pub holds_part : (told_in : Bool) (file_in old new : Option (List ℕ)) (capture : List ℕ) → (IsTrue told_in → file_in ≡ Some capture) → length capture ≤ 4294967296 → is_some (records_of capture) ≡ true → IsPartOf old new (wkp_capture (records_read capture)) → (new ≡ old) ⊎ HoldsPart told_in file_in new

@@ -15,12 +15,16 @@ OnWkp None P = Unit {0}
 OnWkp (Some (wkp input output)) P = P input output
 OnWkp (Some (map_address configuration device address)) P = Unit {0}
 
+-- the answer to bytes that are no plain capture
+abbrev pub not_built : Status
+not_built = BadCapture Left 0 NotBuilt
+
 -- The answer that the bytes of IN decide: more of them than a capture may have, no plain capture, or one.
 abbrev pub judgement : List ℕ → Status
 judgement bytes =
     if nat_lt 4294967296 (length bytes) then TooLong 1
     else if is_some (records_of bytes) then Ok
-    else BadCapture Left 0 NotBuilt
+    else not_built
 
 -- a status that speaks of the bytes of IN
 abbrev pub IsJudgement : Status → Type 0
@@ -41,7 +45,7 @@ IsWkpStatus BadWords = ⊥
 IsWkpStatus (BadConfig fault) = ⊥
 IsWkpStatus ReadFault = Unit {0}
 IsWkpStatus WriteFault = Unit {0}
-IsWkpStatus (BadCapture end place fault) = BadCapture end place fault ≡ BadCapture Left 0 NotBuilt
+IsWkpStatus (BadCapture end place fault) = BadCapture end place fault ≡ not_built
 IsWkpStatus NoMemory = Unit {0}
 IsWkpStatus (TooLong word) = word ≡ 1
 IsWkpStatus NoDevice = ⊥
@@ -57,18 +61,6 @@ BeforeOutput (BadCapture end place fault) P = P
 BeforeOutput NoMemory P = Unit {0}
 BeforeOutput (TooLong word) P = P
 BeforeOutput NoDevice P = P
-
--- a fact for the status of a run whose IN is no plain capture
-abbrev pub OnBadCapture : Status → Type 0 → Type 0
-OnBadCapture Ok P = Unit {0}
-OnBadCapture BadWords P = Unit {0}
-OnBadCapture (BadConfig fault) P = Unit {0}
-OnBadCapture ReadFault P = Unit {0}
-OnBadCapture WriteFault P = Unit {0}
-OnBadCapture (BadCapture end place fault) P = P
-OnBadCapture NoMemory P = Unit {0}
-OnBadCapture (TooLong word) P = Unit {0}
-OnBadCapture NoDevice P = Unit {0}
 
 -- a fact for the statuses of a run that stopped, perhaps in the middle of OUT
 abbrev pub OnStopped : Status → Type 0 → Type 0
@@ -100,9 +92,9 @@ pub record HoldsPart (told_in : Bool) (file_in : Option (List ℕ)) (file_out : 
   pub bytes : ℕ
   pub part : file_out ≡ Some (take bytes (wkp_capture (records_read capture)))
 
--- IN was read as bytes that are no plain capture.
+-- IN was read as these bytes, which are no plain capture.
 pub record IsNoCapture (told_in : Bool) (file_in : Option (List ℕ)) : Type 0 where
   pub bytes : List ℕ
   pub read : IsTrue told_in → file_in ≡ Some bytes
   pub within : length bytes ≤ 4294967296
-  pub not_plain : is_some (records_of bytes) ≡ false
+  pub plain : is_some (records_of bytes) ≡ false

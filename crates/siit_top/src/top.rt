@@ -3,7 +3,7 @@ ghost use Rattle.std.specs.Prelude.{◌≡◌, ◌≢◌, ◌↔◌, ◌⊎◌, 
 ghost use Rattle.std.specs.String.{string_bytes};
 ghost use Rattle.siit_word.specs.Causes.{NeverFalls, Rose};
 ghost use Rattle.siit_word.specs.Files.{held, Stays, StaysBut};
-ghost use Rattle.siit_top.specs.Run.{judgement, BeforeOutput, Carries, HoldsPart, IsJudgement, IsNoCapture, IsWkpStatus, OnBadCapture, OnStopped, OnWkp};
+ghost use Rattle.siit_top.specs.Run.{judgement, not_built, BeforeOutput, Carries, HoldsPart, IsJudgement, IsNoCapture, IsWkpStatus, OnStopped, OnWkp};
 ghost use Rattle.siit_top.specs.MapRun.{decision, IsMapStatus, IsReadAs, OnDecided, OnMap, OnWhole, Says};
 ghost use Rattle.siit_top.specs.Words.{command_of};
 
@@ -43,8 +43,9 @@ pub fn siit_main<F: Files, I: Idents>(
         → ¬ Rose (F.read_faults files.old input) (F.read_faults files.new input)
         → ¬ Rose (F.write_faults files.old output) (F.write_faults files.new output)
         → (result ≡ judgement (held (F.contents files.old input))) ⊎ (result ≡ Status.NoMemory)) }
-    ensures bad_capture { OnWkp (command_of (map string_bytes words.now)) (λ input output. OnBadCapture result
-        (IsNoCapture (F.is_told files.old input) (F.contents files.old input))) }
+
+    ensures bad_capture { OnWkp (command_of (map string_bytes words.now)) (λ input output.
+        result ≡ not_built → IsNoCapture (F.is_told files.old input) (F.contents files.old input)) }
 
     // What a whole run wrote, and what one that stopped left.
     ensures carries { OnWkp (command_of (map string_bytes words.now)) (λ input output. result ≡ Status.Ok

@@ -4,7 +4,7 @@ ghost use Rattle.siit_word.specs.Causes.{NeverFalls, Rose};
 ghost use Rattle.siit_word.specs.Files.{held, Stays, StaysBut};
 ghost use Rattle.siit_top.specs.Counted.{IsPartOf};
 ghost use Rattle.siit_top.specs.PlainCapture.{records_of};
-ghost use Rattle.siit_top.specs.Run.{judgement, BeforeOutput, Carries, HoldsPart, IsJudgement, IsNoCapture, IsWkpStatus, OnBadCapture, OnStopped};
+ghost use Rattle.siit_top.specs.Run.{judgement, not_built, BeforeOutput, Carries, HoldsPart, IsJudgement, IsNoCapture, IsWkpStatus, OnStopped};
 ghost use Rattle.siit_top.specs.Turns.{records_read};
 ghost use Rattle.siit_top.specs.Wkp.{end_line, wkp_capture, wkp_line};
 
@@ -93,7 +93,8 @@ pub(crate) fn wkp<F: Files>(
         → Rose (F.write_faults files.old output.now) (F.write_faults files.new output.now) }
     ensures judged { IsJudgement result → IsTrue (F.is_told files.old input.now)
         → result ≡ judgement (held (F.contents files.old input.now)) }
-    ensures bad_capture { OnBadCapture result (IsNoCapture (F.is_told files.old input.now) (F.contents files.old input.now)) }
+    ensures bad_capture { result ≡ not_built
+        → IsNoCapture (F.is_told files.old input.now) (F.contents files.old input.now) }
     ensures carries { result ≡ Status.Ok
         → Carries (F.is_told files.old input.now) (F.contents files.old input.now)
         (F.is_told files.old output.now) (F.contents files.new output.now) out.old.items out.new.items }

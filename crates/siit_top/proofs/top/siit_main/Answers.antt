@@ -9,11 +9,6 @@ returns-in-Some-Wkp-clause-judged g c =
     let is = by_names _ _ _ c.as_str.result.now c.as_str-in-Some-Wkp.result.now (sym c.in-Some-Wkp.ensures ∙ ap (λ x. Some (command_read x)) c.in-Some-Wkp.field-0-is) c.as_str.ensures.value c.as_str-in-Some-Wkp.ensures.value in
     rw is c.wkp.ensures.judged
 
-pub returns-in-Some-Wkp-clause-bad_capture : goal.returns-in-Some-Wkp-clause-bad_capture
-returns-in-Some-Wkp-clause-bad_capture g c =
-    let is = by_names _ _ _ c.as_str.result.now c.as_str-in-Some-Wkp.result.now (sym c.in-Some-Wkp.ensures ∙ ap (λ x. Some (command_read x)) c.in-Some-Wkp.field-0-is) c.as_str.ensures.value c.as_str-in-Some-Wkp.ensures.value in
-    rw is c.wkp.ensures.bad_capture
-
 pub returns-in-Some-Wkp-clause-carries : goal.returns-in-Some-Wkp-clause-carries
 returns-in-Some-Wkp-clause-carries g c =
     let is = by_names _ _ _ c.as_str.result.now c.as_str-in-Some-Wkp.result.now (sym c.in-Some-Wkp.ensures ∙ ap (λ x. Some (command_read x)) c.in-Some-Wkp.field-0-is) c.as_str.ensures.value c.as_str-in-Some-Wkp.ensures.value in
