@@ -14,7 +14,9 @@ import tempfile
 from pathlib import Path
 
 sys.dont_write_bytecode = True
+import dns_expected
 import expected
+import worked_packets
 
 TOP = Path(__file__).resolve().parent.parent
 
@@ -26,17 +28,18 @@ class Case:
         self.folder, self.words, self.line, self.status = folder, words, "", 0
 
     def words_with(self, out):
-        """The words, with whole paths and with another name for out.pcap."""
-        return [str(out if word == "out.pcap" else TOP / word if word.startswith("examples/") else word) for word in self.words]
+        """The words, with whole paths and with another name for out.pcap or out.bin."""
+        return [str(out if word in ("out.pcap", "out.bin") else TOP / word if word.startswith("examples/") else word) for word in self.words]
 
     def differences(self, line, status, out):
         if line != self.line:
             yield f"printed {line!r}, expected {self.line!r}"
         if status != self.status:
             yield f"status {status}, expected {self.status}"
-        is_written = self.words[0] == "wkp" and self.status == 0
-        if out.exists() != is_written or is_written and out.read_bytes() != (self.folder / "expected.pcap").read_bytes():
-            yield "out.pcap isn't as expected"
+        whole = {"wkp": "expected.pcap", "dns64": "expected.bin"}.get(self.words[0])
+        is_written = whole is not None and self.status == 0
+        if out.exists() != is_written or is_written and out.read_bytes() != (self.folder / whole).read_bytes():
+            yield "the output isn't as expected"
 
 
 def read_cases():
@@ -60,7 +63,9 @@ def is_for_script(case):
 def by_script(case, out):
     """The line of expected.py and the status that goes with it."""
     command, *words = case.words_with(out)
-    line = {"wkp": expected.wkp, "map": expected.map_address}[command](*words)
+    line = {"wkp": expected.wkp, "map": expected.map_address, "discover": dns_expected.discover_line, "dns64": dns_expected.dns64_line}[command](*words)
+    if line.startswith("siit: bad message: "):
+        return line + "\n", 9
     return line + "\n", {"siit: no device": 10, "siit: bad capture: left at 0: NotBuilt": 6}.get(line, 0)
 
 
@@ -85,6 +90,7 @@ def by_program(cases, work):
 
 
 def main():
+    worked_packets.main()
     cases = read_cases()
     failed = False
 

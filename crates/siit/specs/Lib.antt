@@ -1,1 +1,2 @@
 pub mod OwnWords
+pub mod Disk

@@ -1,4 +1,5 @@
-// The files of the system, of whose bytes nothing is told. They stay open from call to call, and appended bytes are gathered.
+//! The files of the system, of whose bytes nothing is told. They stay open from call to call, and appended bytes are
+//! gathered.
 ghost use Rattle.siit_word.specs.Causes.{Rose};
 ghost use Rattle.std.specs.Prelude.{◌≡◌, ◌≤◌, ◌<◌, ◌+◌, ◌-◌, ◌^◌, ◌++◌, [], All, min, length, is_err, true, IfOk, OnErr, OnOk};
 
@@ -111,8 +112,8 @@ fn flush_all<F: Write>(appenders: &mut [Appender<F>]) -> io::Result<()>
     flushed
 }
 
-/// The files of the system, by their paths. A fault of reading raises one count and a fault of writing another, and both
-/// stand for every name.
+/// The files of the system, by their paths. A fault of reading raises one count and a fault of writing another, and
+/// both stand for every name.
 #[derive(Drop)]
 pub struct DiskFiles<R: rt::Files> {
     rt: R,
@@ -219,17 +220,9 @@ impl<R: rt::Files> DiskFiles<R> {
 }
 
 impl<R: rt::Files> Files for DiskFiles<R> {
-    ghost use Rattle.std.specs.Prelude.{false, None};
+    ghost use Rattle.siit.specs.Disk.{untold};
 
-    ghost is_told = { λ m q. false };
-
-    ghost contents = { λ m q. None };
-
-    ghost given = { λ m q. None };
-
-    ghost read_faults = { λ m q. m.read_faults };
-
-    ghost write_faults = { λ m q. m.write_faults };
+    ghost meaning = { λ m. untold m.read_faults m.write_faults };
 
     fn read(&mut self, name: &str, at: u64, into: &mut [u8]) -> Result<usize, Failed> {
         // Bytes that can't be written are reported by the next write, or by `flush`.
@@ -271,7 +264,8 @@ mod tests {
     use std::fs;
     use std::test::Fail;
 
-    // Two files are kept apart, whether their bytes are gathered or written at once.
+    // Two files are kept apart, whether their bytes are gathered or written at once, and a file that is there is made
+    // empty.
     #[test]
     fn appended_bytes_are_read(rt: HostRuntime) -> Result<(), Fail> {
         let name = "disk_files_test.bin";
@@ -295,7 +289,10 @@ mod tests {
         assert_eq!(rt; into, [8, 9, 6, 6]);
         assert_eq!(rt; files.read(name, 0, &mut into)?, 4);
         assert_eq!(rt; into, [1, 2, 3, 4]);
+        files.create(other)?;
+        assert_eq!(rt; files.read(other, 0, &mut into)?, 0);
         files.flush()?;
+        assert_eq!(rt; fs::metadata(&rt, other)?.len(), 0);
         fs::remove_file(&rt, other)?;
         assert_eq!(rt; fs::metadata(&rt, name)?.len(), 6 + LARGE as u64);
         assert!(rt; files.append("no_such_folder/file.bin", &[1]).is_err());

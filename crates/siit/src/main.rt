@@ -25,7 +25,6 @@ fn main(rt: HostRuntime) -> ExitCode {
 fn run<R: Runtime + AllocGlobal>(rt: &R) -> u8
     ensures bound { result ≤ 10 }
     ensures no_one { result ≢ 1 }
-    ensures no_nine { result ≢ 9 }
 {
     let words = match words_of(rt) {
         Ok(words) => words,
@@ -60,7 +59,6 @@ fn words_of<R: Env + AllocGlobal>(rt: &R) -> Result<Vec<String>, Status>
 fn run_command<R: Runtime + AllocGlobal>(rt: &R, words: &[String]) -> u8
     ensures bound { result ≤ 10 }
     ensures no_one { result ≢ 1 }
-    ensures no_nine { result ≢ 9 }
 {
     let alloc = rt.alloc();
     let Ok(own) = rt.clone() else {

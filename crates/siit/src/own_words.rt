@@ -1,4 +1,4 @@
-// The words that the program answers itself.
+//! The words that the program answers itself.
 ghost use Rattle.siit.specs.OwnWords.{own_word_of};
 ghost use Rattle.std.specs.Prelude.{◌≡◌, ◌∷◌, [], map};
 ghost use Rattle.std.specs.String.{string_bytes};
@@ -12,11 +12,18 @@ siit translates captures between IPv4 and IPv6 without state (RFC 7915).
   siit map CONFIG DEVICE ADDRESS  prints what the device of this number, the
                                   first being 1, maps the address to, which
                                   is of either family
+  siit dns64 PREFIX QUERY AAAA A OUT
+                                  writes the answer to the DNS query QUERY
+                                  to OUT, from the responses AAAA and A;
+                                  `-` for A is no response
+  siit discover ANSWER            prints the translation prefixes that ANSWER
+                                  shows, a DNS answer about ipv4only.arpa
   siit --help                     prints this
   siit --version                  prints the version
 
 Exit status: 0 done, 2 bad words, 3 bad configuration, 4 read fault,
-5 write fault, 6 bad capture, 7 no memory, 8 file too long, 10 no device.
+5 write fault, 6 bad capture, 7 no memory, 8 file too long, 9 bad DNS message,
+10 no device.
 Where it isn't 0, a line on standard output says why.
 ";
 

@@ -1,10 +1,10 @@
 -- An IPv6 text that is written is read again.
 use Rattle.std.proofs.Common.{◌≡◌, ℕ, zero, suc, ◌+◌, ◌-◌, ◌/◌, ◌%◌, ◌<◌, ◌≤◌, Bool, true, false, inl, inr, List, [], ◌∷◌, ◌++◌, length, take, drop, replicate, Some, refl, ap, sym, ◌∙◌, arith, append_assoc, append-nil, length-append}
-use Rattle.std.specs.Prelude.{option_map}
+use Rattle.std.specs.Option.{option_map, option_or}
 use Rattle.std.proofs.lemmas.Bool.{cases_lt, lt-ltb, le-ltb, le-leb}
 use Rattle.std.proofs.lemmas.List.{length-replicate}
 use Rattle.std.proofs.Math.Nat.{div-div-eq-div-mul}
-use Rattle.siit_addr.specs.Texts.{colon, slash, parts_at, both_with, at_most, or_else, last_groups_of, groups_of_parts, groups_of, with_gap, ipv6_of_groups, ipv6_of_text, decimal_of, prefix_of_parts, prefix6_of_text, ipv4_of_text}
+use Rattle.siit_addr.specs.Texts.{colon, slash, parts_at, both_with, at_most, last_groups_of, groups_of_parts, groups_of, with_gap, ipv6_of_groups, ipv6_of_text, decimal_of, prefix_of_parts, ipv4_of_text}
 use Rattle.siit_addr.specs.Canonical.{group_text, behind_colons, joined, decimal_text, groups_of_number, longest_run, first_run, groups_text, ipv6_text, prefix6_text}
 use Rattle.siit_addr.proofs.Parts.{length_parts_at}
 use Rattle.siit_addr.proofs.Lacking.{Lacks, Lacks-append, parts_at-front, parts_at-only, colon_is_no_digit, slash_is_no_digit, Lacks-group_text, Lacks-decimal_text}
@@ -32,7 +32,7 @@ AreGroups-drop (suc n) (group ∷ groups) h = AreGroups-drop n groups h.1
 last_group : (at_end : Bool) (group : ℕ) → group < 65536 → last_groups_of at_end (group_text group) ≡ Some (group ∷ [])
 last_group false group h = ap (option_map (λ g. g ∷ [])) (group_of-group_text group h)
 last_group true group h =
-    ap (λ o. or_else (option_map (λ g. g ∷ []) o) (option_map (λ a. (a / 65536) ∷ (a % 65536) ∷ []) (ipv4_of_text (group_text group))))
+    ap (λ o. option_or (option_map (λ g. g ∷ []) o) (option_map (λ a. (a / 65536) ∷ (a % 65536) ∷ []) (ipv4_of_text (group_text group))))
     (group_of-group_text group h)
 
 joined_parts : (at_end : Bool) (group : ℕ) (groups : List ℕ) → group < 65536 → AreGroups groups → groups_of_parts at_end (parts_at colon (joined (group ∷ groups))) ≡ Some (group ∷ groups)
@@ -120,8 +120,9 @@ Lacks-groups_text groups =
           (Lacks-joined (drop (place + run) groups)))
     ]
 
-pub prefix6_of_text-prefix6_text : (a len : ℕ) → a < 340282366920938463463374607431768211456 → len ≤ 128 → prefix6_of_text (prefix6_text a len) ≡ Some (a, len)
-prefix6_of_text-prefix6_text a len h limit =
+pub parts_of-prefix6_text : (a len : ℕ) → a < 340282366920938463463374607431768211456 → len ≤ 128
+    → prefix_of_parts ipv6_of_text 128 (parts_at slash (prefix6_text a len)) ≡ Some (a, len)
+parts_of-prefix6_text a len h limit =
     ap (λ text. prefix_of_parts ipv6_of_text 128 (parts_at slash text)) (append_assoc (ipv6_text a) (slash ∷ []) (decimal_text len))
     ∙ ap (prefix_of_parts ipv6_of_text 128)
     (parts_at-front slash (ipv6_text a) (decimal_text len) (Lacks-groups_text (groups_of_number a))

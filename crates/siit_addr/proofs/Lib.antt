@@ -8,3 +8,4 @@ pub mod Lacking
 pub mod NumberIn
 pub mod Parts
 pub mod ZeroRuns
+pub mod Prefixes

@@ -17,9 +17,9 @@ is_clear_behind width len a = (a % 2 ^ (width - len)) == 0
 abbrev pub dotted : ℕ → ℕ → ℕ → ℕ → ℕ
 dotted a b c d = ((a * 256 + b) * 256 + c) * 256 + d
 
--- The ranges that are not global. The list is this project's own: it has this network (0.0.0.0/8), the private, loopback and
--- link-local ranges, the protocol assignments (192.0.0.0/24), the documentation, benchmarking, multicast (224.0.0.0/4) and
--- reserved ranges, and not the shared range 100.64.0.0/10.
+-- The ranges that are not global. The list is this project's own: it has this network (0.0.0.0/8), the private,
+-- loopback and link-local ranges, the protocol assignments (192.0.0.0/24), the documentation, benchmarking, multicast
+-- (224.0.0.0/4) and reserved ranges, and not the shared range 100.64.0.0/10.
 abbrev pub is_non_global_number : ℕ → Bool
 is_non_global_number a =
     agree 32 8 a (dotted 0 0 0 0)

@@ -54,7 +54,8 @@ abbrev pub first_run : ℕ → List ℕ → ℕ
 first_run run [] = 0
 first_run run (group ∷ groups) = if nat_le run (zeros_ahead (group ∷ groups)) then 0 else 1 + first_run run groups
 
--- Groups with "::" for the first of the longest runs of zero groups (RFC 5952 4.2.1, 4.2.3), unless that is shorter than two (4.2.2)
+-- Groups with "::" for the first of the longest runs of zero groups (RFC 5952 4.2.1, 4.2.3), unless that is shorter
+-- than two (4.2.2)
 abbrev pub groups_text : List ℕ → List ℕ
 groups_text groups =
     let run = longest_run groups in

@@ -1,7 +1,11 @@
--- Worked examples of the texts: those of RFC 4291 2.2, RFC 5952 and RFC 6052 2.4, and texts that are not in the grammar.
-use Rattle.std.specs.Prelude.{◌≡◌, ℕ, ◌-◌, ◌^◌, [], ◌∷◌, Some, None, map, replicate, codes}
+-- Worked examples of the texts: those of RFC 4291 2.2, RFC 5952 and RFC 6052 2.4, and texts that are not in the
+-- grammar.
+use Rattle.std.specs.Prelude.{◌≡◌, ℕ, ◌-◌, ◌^◌, [], ◌∷◌, Some, None, map, replicate, codes, option_map}
+use Rattle.siit_addr.specs.declared.addr.Prefix4.{Prefix4}
+use Rattle.siit_addr.specs.declared.addr.Prefix6.{Prefix6}
 use Rattle.siit_addr.specs.Addresses.{dotted}
-use Rattle.siit_addr.specs.Texts.{ipv4_of_text, ipv6_of_text, prefix4_of_text, prefix6_of_text, number_of_groups}
+use Rattle.siit_addr.specs.Texts.{ipv4_of_text, ipv6_of_text, number_of_groups}
+use Rattle.siit_addr.specs.Prefixes.{prefix4_of_text, prefix6_of_text}
 use Rattle.siit_addr.specs.Canonical.{ipv4_text, ipv6_text, prefix6_text}
 
 abbrev pub groups8 : (a b c d e f g h : ℕ) → ℕ
@@ -32,7 +36,8 @@ Ipv6TextsAreRead =
     ∷ Some (groups8 0 0 0 0 0 0xffff 0xc000 0x221) ∷ Some (groups8 0x64 0xff9b 0 0 0 0 0xc000 0x221)
     ∷ Some (groups8 0x2001 0xdb8 0x122 0x344 0 0 0xc000 0x221) ∷ [])
 
--- two gaps, three colons, too few and too many groups, a gap for no group, five digits, an IPv4 text that is not at the end or not whole
+-- two gaps, three colons, too few and too many groups, a gap for no group, five digits, an IPv4 text that is not at the
+-- end or not whole
 abbrev pub Ipv6TextsAreRefused : Type 0
 Ipv6TextsAreRefused =
     (map ipv6_of_text
@@ -41,11 +46,19 @@ Ipv6TextsAreRefused =
     ∷ codes "1:2:3:4:5:6:7:" ∷ codes "1:2:3:4:5:6:7:1.2.3.4" ∷ codes "::g" ∷ [])
     ≡ replicate 14 None)
 
+abbrev pub numbers4 : Prefix4 → ℕ × ℕ
+numbers4 p = (p.addr.0, p.len)
+
+abbrev pub numbers6 : Prefix6 → ℕ × ℕ
+numbers6 p = (p.addr.0, p.len)
+
 abbrev pub PrefixTextsAreRead : Type 0
 PrefixTextsAreRead =
-    (map prefix4_of_text (codes "192.0.2.0/24" ∷ codes "192.0.2.33/24" ∷ codes "0.0.0.0/0" ∷ codes "192.0.2.33/32" ∷ [])
+    (map (λ text. option_map numbers4 (prefix4_of_text text))
+    (codes "192.0.2.0/24" ∷ codes "192.0.2.33/24" ∷ codes "0.0.0.0/0" ∷ codes "192.0.2.33/32" ∷ [])
     ≡ Some (dotted 192 0 2 0, 24) ∷ Some (dotted 192 0 2 33, 24) ∷ Some (0, 0) ∷ Some (dotted 192 0 2 33, 32) ∷ [])
-    × (map prefix6_of_text (codes "64:ff9b::/96" ∷ codes "::/0" ∷ codes "::1/128" ∷ [])
+    × (map (λ text. option_map numbers6 (prefix6_of_text text))
+    (codes "64:ff9b::/96" ∷ codes "::/0" ∷ codes "::1/128" ∷ [])
     ≡ Some (groups8 0x64 0xff9b 0 0 0 0 0 0, 96) ∷ Some (0, 0) ∷ Some (1, 128) ∷ [])
 
 abbrev pub PrefixTextsAreRefused : Type 0

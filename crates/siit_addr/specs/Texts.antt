@@ -1,5 +1,7 @@
--- The texts that are read as IPv4 and IPv6 addresses and prefixes (RFC 4291 2.2 and 2.3, RFC 4632 3.1). A text is the list of its bytes.
+-- The texts that are read as IPv4 and IPv6 addresses and prefixes (RFC 4291 2.2 and 2.3, RFC 4632 3.1). A text is the
+-- list of its bytes.
 use Rattle.std.specs.Prelude.{ℕ, ◌+◌, ◌*◌, ◌-◌, ◌/◌, ◌%◌, Bool, true, false, ◌&&◌, ◌==◌, nat_le, if◌then◌else◌, List, [], ◌∷◌, ◌++◌, length, replicate, fold, Option, Some, None, option_map, option_and_then}
+use Rattle.std.specs.Option.{option_or}
 
 -- the bytes of '.', '/' and ':'
 abbrev pub point : ℕ
@@ -15,11 +17,6 @@ colon = 58
 abbrev pub both_with : {A B C : Type 0} → (A → B → C) → Option A → Option B → Option C
 both_with f None second = None
 both_with f (Some a) second = option_map (f a) second
-
--- the first value, if it is there, and else the second
-abbrev pub or_else : {A : Type 0} → Option A → Option A → Option A
-or_else None second = second
-or_else (Some a) second = Some a
 
 -- the number, if it is not above the limit
 abbrev pub at_most : ℕ → Option ℕ → Option ℕ
@@ -86,7 +83,7 @@ ipv4_of_text text = ipv4_of_parts (parts_at point text)
 abbrev pub last_groups_of : Bool → List ℕ → Option (List ℕ)
 last_groups_of false part = option_map (λ group. group ∷ []) (group_of part)
 last_groups_of true part =
-    or_else (option_map (λ group. group ∷ []) (group_of part))
+    option_or (option_map (λ group. group ∷ []) (group_of part))
     (option_map (λ a. (a / 65536) ∷ (a % 65536) ∷ []) (ipv4_of_text part))
 
 abbrev pub groups_of_parts : Bool → List (List ℕ) → Option (List ℕ)
@@ -95,7 +92,8 @@ groups_of_parts at_end (part ∷ []) = last_groups_of at_end part
 groups_of_parts at_end (part ∷ next ∷ parts) =
     both_with (λ group groups. group ∷ groups) (group_of part) (groups_of_parts at_end (next ∷ parts))
 
--- the groups that a text writes between colons, none for an empty text; at_end says whether the address ends with this text
+-- the groups that a text writes between colons, none for an empty text; at_end says whether the address ends with this
+-- text
 abbrev pub groups_of : Bool → List ℕ → Option (List ℕ)
 groups_of at_end [] = Some []
 groups_of at_end (byte ∷ text) = groups_of_parts at_end (parts_at colon (byte ∷ text))
@@ -128,14 +126,9 @@ ipv6_of_sides text (Some sides) =
 abbrev pub ipv6_of_text : List ℕ → Option ℕ
 ipv6_of_text text = ipv6_of_sides text (around_gap text)
 
--- a prefix: an address, a slash and a decimal length with a limit (RFC 4291 2.3); bits behind the length may be set
+-- the address and the length of a prefix: an address, a slash and a decimal length with a limit (RFC 4291 2.3); bits
+-- behind the length may be set
 abbrev pub prefix_of_parts : (List ℕ → Option ℕ) → ℕ → List (List ℕ) → Option (ℕ × ℕ)
 prefix_of_parts address_of limit (address ∷ len ∷ []) =
     both_with (λ a l. (a, l)) (address_of address) (at_most limit (decimal_of len))
 prefix_of_parts address_of limit _ = None
-
-abbrev pub prefix4_of_text : List ℕ → Option (ℕ × ℕ)
-prefix4_of_text text = prefix_of_parts ipv4_of_text 32 (parts_at slash text)
-
-abbrev pub prefix6_of_text : List ℕ → Option (ℕ × ℕ)
-prefix6_of_text text = prefix_of_parts ipv6_of_text 128 (parts_at slash text)

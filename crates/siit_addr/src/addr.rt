@@ -1,3 +1,4 @@
+//! Addresses and prefixes as numbers.
 ghost use Rattle.std.specs.Prelude.{◌≡◌, ◌≤◌, ◌-◌, ◌/◌, ◌^◌};
 ghost use Rattle.siit_addr.specs.Addresses.{agree, is_clear_behind, is_non_global_number, overlap};
 
@@ -107,11 +108,11 @@ fn first_bits(bits: u128, len: u8) -> u128
     bits.checked_shr(u32::from(128 - len)).unwrap_or(0)
 }
 
-/// Whether the address lies in one of the ranges that are not global: 0.0.0.0/8 (this network), 10.0.0.0/8, 172.16.0.0/12 and
-/// 192.168.0.0/16 (private, RFC 1918), 127.0.0.0/8 (loopback), 169.254.0.0/16 (link-local, RFC 3927), 192.0.0.0/24 (protocol
-/// assignments, RFC 6890), 192.0.2.0/24, 198.51.100.0/24 and 203.0.113.0/24 (documentation, RFC 5737), 198.18.0.0/15
-/// (benchmarking, RFC 2544), 224.0.0.0/4 (multicast, RFC 5771) and 240.0.0.0/4 (reserved, RFC 1112 section 4). The list is
-/// this project's own: the shared range 100.64.0.0/10 (RFC 6598) counts as global.
+/// Whether the address lies in one of the ranges that are not global: 0.0.0.0/8 (this network), 10.0.0.0/8,
+/// 172.16.0.0/12 and 192.168.0.0/16 (private, RFC 1918), 127.0.0.0/8 (loopback), 169.254.0.0/16 (link-local, RFC 3927),
+/// 192.0.0.0/24 (protocol assignments, RFC 6890), 192.0.2.0/24, 198.51.100.0/24 and 203.0.113.0/24 (documentation, RFC
+/// 5737), 198.18.0.0/15 (benchmarking, RFC 2544), 224.0.0.0/4 (multicast, RFC 5771) and 240.0.0.0/4 (reserved, RFC 1112
+/// section 4). The list is this project's own: the shared range 100.64.0.0/10 (RFC 6598) counts as global.
 pub fn is_non_global(a: Addr4) -> bool
     ensures { result ≡ is_non_global_number a.0 }
 {

@@ -1,3 +1,4 @@
+//! Texts as worked by hand, each table the contract of a function with no body.
 ghost use Rattle.siit_addr.specs.TextExamples.{
   Ipv4TextsAreRead,
   Ipv4TextsAreRefused,

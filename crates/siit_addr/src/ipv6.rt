@@ -51,7 +51,8 @@ fn joined(a: u16, b: u16, c: u16, d: u16) -> u64
     ((u64::from(a) * 65536 + u64::from(b)) * 65536 + u64::from(c)) * 65536 + u64::from(d)
 }
 
-// Zero groups between the groups on both sides of a "::", so that there are eight. None where there is no place for one.
+// Zero groups between the groups on both sides of a "::", so that there are eight. None where there is no place for
+// one.
 #[tactic(auto, using(crate::proofs::GroupLists::by_gap))]
 fn fill_gap(mut groups: ArrayVec<u16, 8>, right: &[u16]) -> Option<ArrayVec<u16, 8>>
     ensures { MatchOption result

@@ -1,6 +1,6 @@
 //! The texts of addresses and prefixes, read and written.
-ghost use Rattle.std.specs.Prelude.{◌≡◌, option_map};
-ghost use Rattle.siit_addr.specs.Texts.{ipv4_of_text, ipv6_of_text, prefix4_of_text, prefix6_of_text};
+ghost use Rattle.std.specs.Prelude.{◌≡◌};
+ghost use Rattle.siit_addr.specs.Prefixes.{addr4_of_text, addr6_of_text, prefix4_of_text, prefix6_of_text};
 ghost use Rattle.siit_addr.specs.Canonical.{ipv4_text, ipv6_text, prefix6_text};
 
 use crate::addr::{Addr4, Addr6, Prefix4, Prefix6};
@@ -12,18 +12,18 @@ use crate::write_digits::push_decimal;
 use crate::write_groups::{groups_of, longest_zero_run, push_groups};
 use arrayvec::ArrayString;
 
-/// Reads an IPv4 address: four decimal numbers 0 to 255 without leading zeros, joined by points (RFC 3986 section 3.2.2,
-/// IPv4address). `None` for any other text.
+/// Reads an IPv4 address: four decimal numbers 0 to 255 without leading zeros, joined by points (RFC 3986 section
+/// 3.2.2, IPv4address). `None` for any other text.
 pub fn read_addr4(text: &str) -> Option<Addr4>
-    ensures { option_map (λ a. a.0) result ≡ ipv4_of_text text.now }
+    ensures { result ≡ addr4_of_text text.now }
 {
     read_ipv4(text.as_bytes())
 }
 
-/// Reads an IPv4 address, a slash and a length in bits, 0 to 32 without leading zeros (RFC 4632 section 3.1). `None` for any
-/// other text. Bits behind the length may be set: see [`Prefix4::is_clean`].
+/// Reads an IPv4 address, a slash and a length in bits, 0 to 32 without leading zeros (RFC 4632 section 3.1). `None`
+/// for any other text. Bits behind the length may be set: see [`Prefix4::is_clean`].
 pub fn read_prefix4(text: &str) -> Option<Prefix4>
-    ensures { option_map (λ p. (p.addr.0, p.len)) result ≡ prefix4_of_text text.now }
+    ensures { result ≡ prefix4_of_text text.now }
 {
     let (address, len) = in_two(text.as_bytes())?;
     Some(Prefix4 {
@@ -48,18 +48,18 @@ pub fn write_addr4(a: Addr4) -> ArrayString<15>
     text
 }
 
-/// Reads an IPv6 address: eight groups of one to four hexadecimal digits joined by colons, the last two also as an IPv4 text;
-/// once "::" may stand for one or more zero groups (RFC 4291 section 2.2). `None` for any other text.
+/// Reads an IPv6 address: eight groups of one to four hexadecimal digits joined by colons, the last two also as an IPv4
+/// text; once "::" may stand for one or more zero groups (RFC 4291 section 2.2). `None` for any other text.
 pub fn read_addr6(text: &str) -> Option<Addr6>
-    ensures { option_map (λ a. a.0) result ≡ ipv6_of_text text.now }
+    ensures { result ≡ addr6_of_text text.now }
 {
     read_ipv6(text.as_bytes())
 }
 
-/// Reads an IPv6 address, a slash and a length in bits, 0 to 128 without leading zeros (RFC 4291 section 2.3). `None` for any
-/// other text. Bits behind the length may be set: see [`Prefix6::is_clean`].
+/// Reads an IPv6 address, a slash and a length in bits, 0 to 128 without leading zeros (RFC 4291 section 2.3). `None`
+/// for any other text. Bits behind the length may be set: see [`Prefix6::is_clean`].
 pub fn read_prefix6(text: &str) -> Option<Prefix6>
-    ensures { option_map (λ p. (p.addr.0, p.len)) result ≡ prefix6_of_text text.now }
+    ensures { result ≡ prefix6_of_text text.now }
 {
     let (address, len) = in_two(text.as_bytes())?;
     Some(Prefix6 {
@@ -88,8 +88,8 @@ pub fn write_addr6(a: Addr6) -> ArrayString<39>
     text
 }
 
-/// The canonical text of an IPv6 prefix: its address as [`write_addr6`] writes it, a slash and the length in bits (RFC 4291
-/// section 2.3). Bits behind the length are written too.
+/// The canonical text of an IPv6 prefix: its address as [`write_addr6`] writes it, a slash and the length in bits (RFC
+/// 4291 section 2.3). Bits behind the length are written too.
 pub fn write_prefix6(p: Prefix6) -> ArrayString<43>
     ensures { result.bytes ≡ prefix6_text p.addr.0 p.len }
 {

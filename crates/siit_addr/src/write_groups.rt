@@ -30,7 +30,8 @@ fn group_at(address: u128, shift: u32) -> u16
     ((address >> shift) % 65536) as u16
 }
 
-/// The place and the length of the longest run of zero groups, the first of those of equal length (RFC 5952 section 4.2.3).
+/// The place and the length of the longest run of zero groups, the first of those of equal length (RFC 5952 section
+/// 4.2.3).
 pub(crate) fn longest_zero_run(groups: &[u16]) -> (usize, usize)
     ensures len { result.1 ≡ longest_run groups.now }
     ensures place { result.0 ≡ first_run result.1 groups.now }

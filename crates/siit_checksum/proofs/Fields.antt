@@ -1,8 +1,8 @@
--- Lists that stay bytes, and stay as long, when fields are set.
-use Rattle.std.proofs.Common.{◌≡◌, ℕ, zero, suc, ◌+◌, ◌<◌, List, [], ◌∷◌, ◌++◌, length, take, drop, slice_index, slice_set, Bool, true, false, if◌then◌else◌, refl, arith, length-append, length-drop}
+-- Lists that stay bytes, and stay as long, when fields are set, and numbers that are read of bytes.
+use Rattle.std.proofs.Common.{◌≡◌, ℕ, zero, suc, ◌+◌, ◌-◌, ◌*◌, ◌^◌, ◌<◌, min, ◌∙◌, ap, List, [], ◌∷◌, ◌++◌, length, take, drop, slice_index, slice_set, Bool, true, false, if◌then◌else◌, refl, arith, length-append, length-drop, length-take}
 use Rattle.std.specs.Int.{byte_at}
 use Rattle.std.proofs.lemmas.List.{length-take-le}
-use Rattle.siit_model.specs.Bytes.{AreBytes, bytes16, with_field16}
+use Rattle.siit_model.specs.Bytes.{AreBytes, bytes16, bytes32, field16, field32, field128, part, with_field16}
 
 pub bytes-cons : (byte : ℕ) (rest : List ℕ) → byte < 256 → AreBytes rest → (place : ℕ) → slice_index (byte ∷ rest) place < 256
 bytes-cons byte rest small others zero = small
@@ -25,6 +25,18 @@ bytes-drop (suc n) (byte ∷ rest) small = bytes-drop n rest (λ (place : ℕ). 
 pub bytes-bytes16 : (value : ℕ) → AreBytes (bytes16 value)
 bytes-bytes16 value =
     bytes-cons (byte_at 1 value) (byte_at 0 value ∷ []) (omega arith) (bytes-cons (byte_at 0 value) [] (omega arith) (λ (place : ℕ). omega arith))
+
+pub bytes-bytes32 : (value : ℕ) → AreBytes (bytes32 value)
+bytes-bytes32 value =
+    bytes-cons (byte_at 3 value) (byte_at 2 value ∷ byte_at 1 value ∷ byte_at 0 value ∷ []) (omega arith)
+    (bytes-cons (byte_at 2 value) (byte_at 1 value ∷ byte_at 0 value ∷ []) (omega arith)
+    (bytes-cons (byte_at 1 value) (byte_at 0 value ∷ []) (omega arith) (bytes-cons (byte_at 0 value) [] (omega arith) (λ (place : ℕ). omega arith))))
+
+pub bytes-part : (bytes : List ℕ) (place n : ℕ) → AreBytes bytes → AreBytes (part bytes place n)
+bytes-part bytes place n small = bytes-take n (drop place bytes) (bytes-drop place bytes small)
+
+pub length-part : (bytes : List ℕ) (place n : ℕ) → length (part bytes place n) ≡ min n (length bytes - place)
+length-part bytes place n = length-take n (drop place bytes) ∙ ap (λ m. min n m) (length-drop place bytes)
 
 pub bytes-with_field16 : (bytes : List ℕ) (place value : ℕ) → AreBytes bytes → AreBytes (with_field16 bytes place value)
 bytes-with_field16 bytes place value small =
@@ -54,3 +66,23 @@ length-set_first (byte ∷ rest) value = refl
 pub length-if : (test : Bool) (one other : List ℕ) (n : ℕ) → (test ≡ true → length one ≡ n) → length other ≡ n → length (if test then one else other) ≡ n
 length-if true one other n same others = same refl
 length-if false one other n same others = others
+
+small16 : (a b : ℕ) → a < 256 → b < 256 → a * 256 + b < 65536
+small16 a b small_a small_b = omega arith
+
+small32 : (a b : ℕ) → a < 65536 → b < 65536 → a * 65536 + b < 4294967296
+small32 a b small_a small_b = omega arith
+
+small128 : (a b c d : ℕ) → a < 4294967296 → b < 4294967296 → c < 4294967296 → d < 4294967296 → a * 2 ^ 96 + b * 2 ^ 64 + c * 2 ^ 32 + d < 2 ^ 128
+small128 a b c d small_a small_b small_c small_d = omega arith
+
+pub field16-small : (bytes : List ℕ) (place : ℕ) → AreBytes bytes → field16 bytes place < 65536
+field16-small bytes place small = small16 (slice_index bytes place) (slice_index bytes (place + 1)) (small place) (small (place + 1))
+
+pub field32-small : (bytes : List ℕ) (place : ℕ) → AreBytes bytes → field32 bytes place < 4294967296
+field32-small bytes place small = small32 (field16 bytes place) (field16 bytes (place + 2)) (field16-small bytes place small) (field16-small bytes (place + 2) small)
+
+pub field128-small : (bytes : List ℕ) (place : ℕ) → AreBytes bytes → field128 bytes place < 2 ^ 128
+field128-small bytes place small =
+    small128 (field32 bytes place) (field32 bytes (place + 4)) (field32 bytes (place + 8)) (field32 bytes (place + 12))
+    (field32-small bytes place small) (field32-small bytes (place + 4) small) (field32-small bytes (place + 8) small) (field32-small bytes (place + 12) small)

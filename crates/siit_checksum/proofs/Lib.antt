@@ -2,3 +2,4 @@ pub mod Residues
 pub mod Numbers
 pub mod Digits
 pub mod Fields
+pub mod Moves

@@ -8,7 +8,9 @@ mod laws;
 mod pseudo;
 
 pub use laws::{
-    changed_word_residue, cut_residue, joined_residue, moved_and_back, moved_udp_and_back,
+    changed_part_residue, changed_word_residue, cut_residue, joined_residue, moved_and_back,
+    moved_between_keeps_residue, moved_by_difference, moved_in_turn, moved_udp_and_back,
+    moved_udp_between_keeps_residue, only_differences_count,
 };
 pub use pseudo::{pseudo_sum4, pseudo_sum6};
 
@@ -36,8 +38,9 @@ pub fn sum_of(bytes: &[u8]) -> u16
     (sum % 65535) as u16
 }
 
-/// The checksum `old` after its data changed from residue `out_sum` to residue `in_sum` (RFC 1624), as TCP and ICMP write
-/// it: the number below 65535 with the residue of `old + out_sum - in_sum`. A checksum that was wrong stays wrong.
+/// The checksum `old` after its data changed from residue `out_sum` to residue `in_sum` (RFC 1624), as TCP and ICMP
+/// write it: the number below 65535 with the residue of `old + out_sum - in_sum`. A checksum that was wrong stays
+/// wrong.
 pub fn shift(old: u16, out_sum: u16, in_sum: u16) -> u16
     ensures value { result ≡ moved old out_sum in_sum }
     ensures below { result < 65535 }

@@ -2,8 +2,8 @@
 ghost use Rattle.std.specs.Prelude.{◌≡◌, ◌<◌};
 ghost use Rattle.siit_model.specs.Checksum.{pseudo4, pseudo6};
 
-/// The residue of the pseudo-header of IPv4 (RFC 793 section 3.1): addresses, protocol, and the length of the upper part in
-/// bytes. It is below 65535.
+/// The residue of the pseudo-header of IPv4 (RFC 793 section 3.1): addresses, protocol, and the length of the upper
+/// part in bytes. It is below 65535.
 pub fn pseudo_sum4(src: u32, dst: u32, protocol: u8, len: u16) -> u16
     ensures value { result ≡ pseudo4 src dst protocol len }
     ensures below { result < 65535 }

@@ -1,4 +1,3 @@
-pub mod Apart
 pub mod Boundary
 pub mod Documents
 pub mod KeyLaws

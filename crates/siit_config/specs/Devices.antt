@@ -1,28 +1,29 @@
--- The configuration of one device: its keys in the order of the configuration's documentation, and the faults behind them.
-use Rattle.std.specs.Prelude.{ℕ, ◌≤◌, ◌+◌, ◌-◌, ◌^◌, min, List, [], ◌∷◌, codes, Bool, true, false, not, ◌||◌, ◌&&◌, nat_lt, Option, Some, None, option_map, Result, Ok, Err}
-use Rattle.std.specs.List.{list_all}
-use Rattle.toml.specs.Data.{Data, Members}
+-- The configuration of one device: its keys in the order of the configuration's documentation, and the faults behind
+-- them.
+use Rattle.std.specs.Prelude.{ℕ, ◌+◌, ◌-◌, ◌^◌, min, List, [], ◌∷◌, codes, Bool, true, false, not, ◌||◌, nat_lt, Option, Some, None, option_map, Result, Ok, Err}
+use Rattle.toml.specs.Data.{Data, Members, as_str}
+use Rattle.siit_addr.specs.declared.addr.Addr4.{Addr4}
 use Rattle.siit_addr.specs.declared.addr.Prefix4.{Prefix4}
 use Rattle.siit_addr.specs.declared.addr.Prefix6.{Prefix6}
 use Rattle.siit_eamt.specs.declared.entry.Eam.{Eam}
 use Rattle.siit_eamt.specs.declared.entry.EamFault.{EamFault}
 use Rattle.siit_eamt.specs.Faults.{table_fault}
-use Rattle.siit_addr.specs.Addresses.{overlap}
-use Rattle.siit_eamt.specs.Disjoint.{overlap4, overlap6}
+use Rattle.siit_eamt.specs.Disjoint.{is_disjoint}
 use Rattle.siit_map.specs.Mapping as mapping
 use Rattle.siit_roles.specs.declared.role.Role.{Role}
 use Rattle.siit_roles.specs.declared.role.Role.TheVariants.{Plain, Border, Edge, Customer}
 use Rattle.siit_roles.specs.declared.settings.Settings.{Settings}
 use Rattle.siit_config.specs.Faults.{Fault, mtu_order, bad_eam, eam, not_symmetric, ◌>>=◌}
 use Rattle.siit_config.specs.Keys.{text, text_or, number_or, flag_or, key, array_of, two_texts, no_others}
-use Rattle.siit_config.specs.Texts.{role_of, address4_of, address6_of, clean_prefix_of, embedding_of, local_embedding_of, either_name, mapping_entry_of}
+use Rattle.siit_addr.specs.Prefixes.{addr4_of_text, addr6_of_text}
+use Rattle.siit_config.specs.Texts.{role_of, clean_prefix_of, embedding_of, local_embedding_of, pool_of, either_name, mapping_entry_of}
 
 -- The keys of the top level, where there is no role, and those of a device with a role.
 abbrev pub known_keys : Option Role → List (List ℕ)
 known_keys None = codes "left" ∷ codes "symmetric" ∷ codes "device" ∷ []
 known_keys (Some role) =
-    codes "role" ∷ codes "prefix" ∷ codes "address4" ∷ codes "address6" ∷ codes "mtu4" ∷ codes "mtu6"
-    ∷ codes "lowest_mtu6" ∷ codes "tos" ∷ codes "udp_zero" ∷ keys_of role
+    codes "role" ∷ codes "prefix" ∷ codes "address4" ∷ codes "address6" ∷ codes "pool4" ∷ codes "mtu4"
+    ∷ codes "mtu6" ∷ codes "lowest_mtu6" ∷ codes "tos" ∷ codes "udp_zero" ∷ keys_of role
   where
     keys_of : Role → List (List ℕ)
     keys_of Plain = codes "hairpin" ∷ codes "eam" ∷ []
@@ -39,25 +40,14 @@ must fault false = Err fault
 abbrev pub entry_in : Data → Option (Option Eam)
 entry_in value = option_map mapping_entry_of (two_texts value)
 
--- The entries, unless one of them is no prefix; those before it are counted. The count is held at its greatest value, which no
--- configuration reaches.
+-- The entries, unless one of them is no prefix; those before it are counted. The count is held at its greatest value,
+-- which no configuration reaches.
 abbrev pub entries_of : (device before : ℕ) → List (Option Eam) → Result (List Eam) Fault
 entries_of device before [] = Ok []
 entries_of device before (None ∷ rest) = Err (bad_eam device (min before (2 ^ 32 - 1)))
 entries_of device before (Some entry ∷ rest) = do
   entries ← entries_of device (before + 1) rest
   Ok (entry ∷ entries)
-
--- no two prefixes of a family overlap, and none overlaps the translation prefix
-abbrev pub are_apart : (Eam → Eam → Bool) → List Eam → Bool
-are_apart overlaps [] = true
-are_apart overlaps (entry ∷ entries) =
-    list_all (λ other. not (overlaps entry other)) entries && are_apart overlaps entries
-
-abbrev pub is_disjoint : List Eam → Prefix6 → Bool
-is_disjoint entries prefix =
-    are_apart overlap4 entries && are_apart overlap6 entries
-    && list_all (λ e. not (overlap 128 e.p6.len e.p6.addr.0 prefix.len prefix.addr.0)) entries
 
 -- a table of these entries (RFC 7757 section 3)
 abbrev pub table_of : (symmetric : Bool) (device : ℕ) → Prefix6 → List Eam → Result mapping.Mapping Fault
@@ -86,6 +76,10 @@ module _ (device : ℕ) (members : Members) where
     Ok (Some (local4, local_prefix6))
   local_of role prefix = Ok None
 
+  -- the pool of IPv4 addresses, address4 alone where the key isn't there
+  abbrev pub pool4_of : (address4 : Addr4) → Result (List Addr4) Fault
+  pool4_of address4 = key device members (array_of as_str) pool_of (Some (address4 ∷ [])) (codes "pool4")
+
   abbrev pub hairpin_of : Role → Result Bool Fault
   hairpin_of Plain = flag_or device members true (codes "hairpin")
   hairpin_of Border = flag_or device members true (codes "hairpin")
@@ -100,8 +94,9 @@ module _ (device : ℕ) (members : Members) where
     role ← text device members role_of (codes "role")
     prefix ← text device members embedding_of (codes "prefix")
     local ← local_of role prefix
-    address4 ← text device members address4_of (codes "address4")
-    address6 ← text device members address6_of (codes "address6")
+    address4 ← text device members addr4_of_text (codes "address4")
+    address6 ← text device members addr6_of_text (codes "address6")
+    pool4 ← pool4_of address4
     mtu4 ← number_or device members 1500 68 65535 (codes "mtu4")
     mtu6 ← number_or device members 1500 1280 65535 (codes "mtu6")
     lowest ← number_or device members 1280 1280 65535 (codes "lowest_mtu6")
@@ -117,6 +112,7 @@ module _ (device : ℕ) (members : Members) where
       mapping = mapped;
       address4 = address4;
       address6 = address6;
+      pool4 = pool4;
       mtu4 = mtu4;
       mtu6 = mtu6;
       lowest = lowest;
@@ -124,10 +120,3 @@ module _ (device : ℕ) (members : Members) where
       udp_compute = udp_compute;
       hairpin = hairpin;
     })
-
--- The limits that the settings of each device keep.
-pub record IsWithinLimits (settings : Settings) : Type 0 where
-  pub mtu4 : 68 ≤ settings.mtu4
-  pub mtu6 : 1280 ≤ settings.mtu6
-  pub lowest : 1280 ≤ settings.lowest
-  pub order : settings.lowest ≤ settings.mtu6

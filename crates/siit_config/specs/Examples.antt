@@ -118,8 +118,8 @@ TopLevelIsRefused =
     ∷ Err (unknown 0 (codes "Left"))
     ∷ [])
 
--- Lowest above mtu6, an unknown key before that, a prefix that two entries have, a text that is no prefix, prefixes that overlap
--- in a symmetric configuration, a key that the role doesn't have, and a role that there isn't.
+-- Lowest above mtu6, an unknown key before that, a prefix that two entries have, a text that is no prefix, prefixes
+-- that overlap in a symmetric configuration, a key that the role doesn't have, and a role that there isn't.
 abbrev pub DevicesAreRefused : Type 0
 DevicesAreRefused =
     (map chain_of
@@ -147,3 +147,34 @@ abbrev pub NestedPrefixesAreAccepted : Type 0
 NestedPrefixesAreAccepted =
     (option_map (λ shown. map (λ s. s.0) shown) (option_map shown (result_ok (chain_of (document false (relay (codes "plain") nested no_members ∷ [])))))
     ≡ Some ((1500 ∷ 1500 ∷ 1280 ∷ []) ∷ []))
+
+-- a device with this pool in its configuration
+abbrev with_pool : Items → Members
+with_pool texts = document false (relay (codes "plain") one_entry (member (codes "pool4") (array texts) no_members) ∷ [])
+
+abbrev pools : Chain → List (List ℕ)
+pools chain = map (λ s. map (λ a. a.0) s.pool4) chain.devices
+
+-- two addresses in their order, and without the key the device's own address
+abbrev pub PoolsAreRead : Type 0
+PoolsAreRead =
+    (map (λ members. option_map pools (result_ok (chain_of members)))
+    (with_pool (item (string (codes "192.0.2.250")) (item (string (codes "192.0.2.251")) no_items))
+    ∷ document false (relay (codes "plain") one_entry no_members ∷ [])
+    ∷ [])
+    ≡ Some ((dotted 192 0 2 250 ∷ dotted 192 0 2 251 ∷ []) ∷ [])
+    ∷ Some ((dotted 192 0 2 254 ∷ []) ∷ [])
+    ∷ [])
+
+-- no address, a text that is no address, and an element that is no text, though a bad text stands before it
+abbrev pub PoolsAreRefused : Type 0
+PoolsAreRefused =
+    (map (λ texts. chain_of (with_pool texts))
+    (no_items
+    ∷ item (string (codes "192.0.2.256")) no_items
+    ∷ item (string (codes "192.0.2.256")) (item (integer (pos 1)) no_items)
+    ∷ [])
+    ≡ Err (bad_value 1 (codes "pool4"))
+    ∷ Err (bad_value 1 (codes "pool4"))
+    ∷ Err (wrong_kind 1 (codes "pool4"))
+    ∷ [])

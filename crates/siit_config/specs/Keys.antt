@@ -8,7 +8,8 @@ use Rattle.siit_addr.specs.Texts.{both_with}
 use Rattle.siit_config.specs.Faults.{Fault, missing, wrong_kind, bad_value, unknown, ◌>>=◌, or_fault}
 use Rattle.siit_config.specs.Texts.{number_within}
 
--- What the value of a key stands for: it must be there where there is no default, and then of the kind, and then accepted.
+-- What the value of a key stands for: it must be there where there is no default, and then of the kind, and then
+-- accepted.
 abbrev pub value_of : {K X : Type 0} → (kind : Data → Option K) → (accepts : K → Option X) → (default : Option X)
     → (device : ℕ) → (name : List ℕ) → Option Data → Result X Fault
 value_of kind accepts default device name None = or_fault (missing device name) default

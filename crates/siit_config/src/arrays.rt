@@ -1,6 +1,6 @@
 //! Arrays of which each item stands for something.
 ghost use Rattle.std.specs.Prelude.{◌≡◌, IfOk, map, option_map};
-ghost use Rattle.toml.specs.Data.{as_table};
+ghost use Rattle.toml.specs.Data.{as_str, as_table};
 ghost use Rattle.toml.specs.View.{items_view, table_view, view};
 ghost use Rattle.siit_config.specs.Devices.{entry_in};
 ghost use Rattle.siit_config.specs.Keys.{all_of, two_texts};
@@ -28,8 +28,26 @@ pub(crate) fn tables<'a>(
     Ok(Some(tables))
 }
 
-/// The entries that all items are, None where one isn't an array of two texts. An entry itself is None where one of its texts
-/// is no prefix.
+/// The texts that all items are, None where one isn't a text.
+pub(crate) fn texts<'a>(
+    alloc: Global,
+    items: &'a [Value],
+) -> Result<Option<Vec<&'a str>>, AllocError>
+    ensures { IfOk result (λ found.
+        option_map (λ texts. map (λ t. t.now) texts.items) found ≡ all_of as_str (items_view items.now)) }
+{
+    let mut texts = Vec::new(alloc);
+    for item in items {
+        let Some(text) = item.as_str() else {
+            return Ok(None);
+        };
+        texts.push(text)?;
+    }
+    Ok(Some(texts))
+}
+
+/// The entries that all items are, None where one isn't an array of two texts. An entry itself is None where one of its
+/// texts is no prefix.
 pub(crate) fn entries(
     alloc: Global,
     items: &[Value],

@@ -2,8 +2,8 @@
 ghost use Rattle.std.specs.Prelude.{◌≡◌, ◌≤◌, All, IfErr, IfOk, MatchResult, None, Ok, Some, codes, length, map};
 ghost use Rattle.toml.specs.Data.{as_integer, as_table};
 ghost use Rattle.toml.specs.View.{table_view};
+ghost use Rattle.siit_roles.specs.Limits.{IsWithinLimits};
 ghost use Rattle.siit_config.specs.Config.{chain_of, config_of, document_of};
-ghost use Rattle.siit_config.specs.Devices.{IsWithinLimits};
 ghost use Rattle.siit_config.specs.Faults.{Gives, IsNoTableMemory, Tells, not_toml, or_fault};
 ghost use Rattle.siit_config.specs.Keys.{array_of, key};
 ghost use Rattle.siit_config.specs.Texts.{family_of};
@@ -18,8 +18,8 @@ use siit_rules::Family;
 use std::alloc::Global;
 use toml::Table;
 
-/// The settings that a configuration in TOML gives, or its first fault: the documentation of the configuration says which keys
-/// there are, and in which order they are judged.
+/// The settings that a configuration in TOML gives, or its first fault: the documentation of the configuration says
+/// which keys there are, and in which order they are judged.
 pub fn read_config(alloc: Global, bytes: &[u8]) -> Result<ChainSettings, ConfigFault>
     ensures settings { IfOk result (λ chain. config_of bytes.now ≡ Ok chain) }
     ensures fault { IfErr result (λ e. Tells e (config_of bytes.now)) }

@@ -1,14 +1,15 @@
 //! The settings of a device.
 ghost use Rattle.std.specs.Prelude.{◌≡◌, ◌≤◌, All, IfOk, MatchResult, Ok, length, map, vec_len};
 ghost use Rattle.toml.specs.View.{table_view};
+ghost use Rattle.siit_roles.specs.Limits.{IsWithinLimits};
 ghost use Rattle.siit_config.specs.Config.{devices_of};
-ghost use Rattle.siit_config.specs.Devices.{device_of, mapping_of, IsWithinLimits};
+ghost use Rattle.siit_config.specs.Devices.{device_of, mapping_of};
 ghost use Rattle.siit_config.specs.Faults.{Gives, Tells};
 
 use crate::fault::ConfigFault;
 use crate::keys::Keys;
 use crate::unknown::no_others;
-use crate::{device_keys, table};
+use crate::{device_keys, pool, table};
 use siit_addr::Prefix4;
 use siit_eamt::Eam;
 use siit_map::Mapping;
@@ -49,6 +50,7 @@ fn device_of(alloc: Global, keys: &Keys, symmetric: bool) -> Result<Settings, Co
     let local = device_keys::local(keys, role, &prefix)?;
     let address4 = device_keys::address4(keys)?;
     let address6 = device_keys::address6(keys)?;
+    let pool4 = pool::pool4(alloc, keys, address4)?;
     let mtu4 = keys.number("mtu4", 1500, 68)?;
     let mtu6 = keys.number("mtu6", 1500, 1280)?;
     let lowest = keys.number("lowest_mtu6", 1280, 1280)?;
@@ -68,6 +70,7 @@ fn device_of(alloc: Global, keys: &Keys, symmetric: bool) -> Result<Settings, Co
         mapping,
         address4,
         address6,
+        pool4,
         mtu4,
         mtu6,
         lowest,

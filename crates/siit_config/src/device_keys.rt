@@ -4,9 +4,8 @@ ghost use Rattle.toml.specs.View.{table_view};
 ghost use Rattle.siit_config.specs.Devices.{eam_of, hairpin_of, local_of};
 ghost use Rattle.siit_config.specs.Faults.{Gives, Tells};
 ghost use Rattle.siit_config.specs.Keys.{text, text_or};
+ghost use Rattle.siit_addr.specs.Prefixes.{addr4_of_text, addr6_of_text};
 ghost use Rattle.siit_config.specs.Texts.{
-  address4_of,
-  address6_of,
   clean_prefix_of,
   either_name,
   embedding_of,
@@ -17,7 +16,7 @@ ghost use Rattle.siit_config.specs.Texts.{
 use crate::fault::ConfigFault;
 use crate::keys::Keys;
 use crate::{arrays, names};
-use siit_addr::{Addr4, Addr6, Prefix4};
+use siit_addr::{Addr4, Addr6, Prefix4, read_addr4, read_addr6};
 use siit_eamt::Eam;
 use siit_rfc6052::Embed;
 use siit_roles::Role;
@@ -69,17 +68,17 @@ fn local_prefix6(keys: &Keys, provider: &Embed) -> Result<Embed, ConfigFault>
 }
 
 pub(crate) fn address4(keys: &Keys) -> Result<Addr4, ConfigFault>
-    ensures { Gives (text keys.now.device (table_view keys.now.table.now) address4_of (codes "address4")) result }
+    ensures { Gives (text keys.now.device (table_view keys.now.table.now) addr4_of_text (codes "address4")) result }
 {
     let text = keys.text("address4")?;
-    keys.accepted("address4", names::address4_of(text))
+    keys.accepted("address4", read_addr4(text))
 }
 
 pub(crate) fn address6(keys: &Keys) -> Result<Addr6, ConfigFault>
-    ensures { Gives (text keys.now.device (table_view keys.now.table.now) address6_of (codes "address6")) result }
+    ensures { Gives (text keys.now.device (table_view keys.now.table.now) addr6_of_text (codes "address6")) result }
 {
     let text = keys.text("address6")?;
-    keys.accepted("address6", names::address6_of(text))
+    keys.accepted("address6", read_addr6(text))
 }
 
 /// One of two names: false for the first, which is the default, and true for the second.

@@ -1,9 +1,12 @@
+//! Worked configurations, each the contract of a function with no body.
 ghost use Rattle.siit_config.specs.Examples.{
   APairIsAccepted,
   ACustomerIsAccepted,
   TopLevelIsRefused,
   DevicesAreRefused,
   NestedPrefixesAreAccepted,
+  PoolsAreRead,
+  PoolsAreRefused,
 };
 
 /// The definition of the configuration gives the worked examples. There is nothing to run.
@@ -13,4 +16,6 @@ pub fn configuration_examples()
     ensures top_level { TopLevelIsRefused }
     ensures devices { DevicesAreRefused }
     ensures nested { NestedPrefixesAreAccepted }
+    ensures pools { PoolsAreRead }
+    ensures refused_pools { PoolsAreRefused }
 {}

@@ -1,3 +1,4 @@
+//! The faults of a configuration.
 ghost use Rattle.std.specs.Prelude.{◌≡◌};
 
 use arrayvec::ArrayString;

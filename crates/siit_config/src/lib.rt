@@ -9,6 +9,7 @@ mod examples;
 mod fault;
 mod keys;
 mod names;
+mod pool;
 mod table;
 mod unknown;
 

@@ -1,20 +1,16 @@
 //! The texts of a configuration.
 ghost use Rattle.std.specs.Prelude.{◌≡◌};
 ghost use Rattle.siit_config.specs.Texts.{
-  address4_of,
-  address6_of,
   clean_prefix_of,
   either_name,
   embedding_of,
   is_local_to,
   local_embedding_of,
   mapping_entry_of,
-  prefix4_of,
-  prefix6_of,
   role_of,
 };
 
-use siit_addr::{Addr4, Addr6, Prefix4, Prefix6};
+use siit_addr::{Prefix4, read_prefix4, read_prefix6};
 use siit_eamt::Eam;
 use siit_rfc6052::Embed;
 use siit_roles::Role;
@@ -44,34 +40,10 @@ pub(crate) fn either_name(off: &str, on: &str, text: &str) -> Option<bool>
     }
 }
 
-pub(crate) fn address4_of(text: &str) -> Option<Addr4>
-    ensures { result ≡ address4_of text.now }
-{
-    siit_addr::read_addr4(text)
-}
-
-pub(crate) fn address6_of(text: &str) -> Option<Addr6>
-    ensures { result ≡ address6_of text.now }
-{
-    siit_addr::read_addr6(text)
-}
-
-fn prefix4_of(text: &str) -> Option<Prefix4>
-    ensures { result ≡ prefix4_of text.now }
-{
-    siit_addr::read_prefix4(text)
-}
-
-fn prefix6_of(text: &str) -> Option<Prefix6>
-    ensures { result ≡ prefix6_of text.now }
-{
-    siit_addr::read_prefix6(text)
-}
-
 pub(crate) fn clean_prefix_of(text: &str) -> Option<Prefix4>
     ensures { result ≡ clean_prefix_of text.now }
 {
-    let prefix = prefix4_of(text)?;
+    let prefix = read_prefix4(text)?;
     if prefix.is_clean() {
         Some(prefix)
     } else {
@@ -83,7 +55,7 @@ pub(crate) fn clean_prefix_of(text: &str) -> Option<Prefix4>
 pub(crate) fn embedding_of(text: &str) -> Option<Embed>
     ensures { result ≡ embedding_of text.now }
 {
-    Embed::new(prefix6_of(text)?).ok()
+    Embed::new(read_prefix6(text)?).ok()
 }
 
 /// A prefix that may stand for local addresses beside the provider's prefix.
@@ -108,7 +80,7 @@ pub(crate) fn mapping_entry_of(first: &str, second: &str) -> Option<Eam>
     ensures { result ≡ mapping_entry_of (first.now, second.now) }
 {
     Some(Eam {
-        p4: prefix4_of(first)?,
-        p6: prefix6_of(second)?,
+        p4: read_prefix4(first)?,
+        p6: read_prefix6(second)?,
     })
 }

@@ -1,16 +1,16 @@
 //! The table of a device.
 ghost use Rattle.std.specs.Prelude.{◌≡◌, Ok, MatchResult};
-ghost use Rattle.siit_config.specs.Devices.{entries_of, is_disjoint, table_of};
+ghost use Rattle.siit_config.specs.Devices.{entries_of, table_of};
 ghost use Rattle.siit_config.specs.Faults.{Gives, Tells};
 
 use crate::fault::ConfigFault;
-use siit_addr::Prefix6;
 use siit_eamt::{Eam, EamFault, Eamt};
 use siit_map::Mapping;
 use siit_rfc6052::Embed;
 use std::alloc::Global;
 
-/// The mapping of a device with these entries, which must be apart from each other and from the prefix where it is symmetric.
+/// The mapping of a device with these entries, which must be apart from each other and from the prefix where it is
+/// symmetric.
 pub(crate) fn table_of(
     alloc: Global,
     symmetric: bool,
@@ -25,16 +25,10 @@ pub(crate) fn table_of(
         Err(EamFault::NoMemory) => return Err(ConfigFault::NoMemory),
         Err(fault) => return Err(ConfigFault::Eam { device, fault }),
     };
-    if symmetric && !is_disjoint(&eamt, prefix.prefix()) {
+    if symmetric && !eamt.is_disjoint(prefix.prefix()) {
         return Err(ConfigFault::NotSymmetric { device });
     }
     Ok(Mapping::table(eamt, prefix))
-}
-
-fn is_disjoint(eamt: &Eamt, prefix: Prefix6) -> bool
-    ensures { result ≡ is_disjoint eamt.now prefix }
-{
-    eamt.is_disjoint(prefix)
 }
 
 /// The entries, which must all be there.

@@ -1,3 +1,4 @@
+//! Configurations that are read from text.
 use crate::{ConfigFault, read_config};
 use arrayvec::ArrayString;
 use siit_addr::{Addr4, Addr6};
@@ -152,6 +153,8 @@ const FAULTS: &[(Level, &str, &str, Wrong)] = &[
         "address6 = \"1::2::3\"",
         Wrong::BadValue,
     ),
+    (Level::Plain, "pool4", "pool4 = [1]", Wrong::WrongKind),
+    (Level::Plain, "pool4", "pool4 = []", Wrong::BadValue),
     (Level::Plain, "mtu4", "mtu4 = \"1500\"", Wrong::WrongKind),
     (Level::Plain, "mtu4", "mtu4 = 67", Wrong::BadValue),
     (Level::Plain, "mtu6", "mtu6 = 1500.0", Wrong::WrongKind),
@@ -269,6 +272,7 @@ prefix = \"64:ff9b::/96\"
 eam = [[\"192.0.2.1/32\", \"2001:db8:6464::1/128\"]]
 address4 = \"192.0.2.254\"
 address6 = \"2001:db8:ffff::1\"
+pool4 = [\"192.0.2.250\", \"192.0.2.251\"]
 [[device]]
 role = \"edge\"
 prefix = \"64:ff9b::/96\"
@@ -297,6 +301,8 @@ fn a_pair_is_read(rt: HostRuntime) -> Result<(), Fail> {
     assert!(rt; (border.mtu4, border.mtu6, border.lowest, edge.mtu4) == (1500, 1500, 1280, 576));
     assert!(rt; border.hairpin && !edge.hairpin && edge.udp_compute && !border.udp_compute);
     assert!(rt; edge.mapping.entries().len() == 1);
+    assert!(rt; border.pool4.addresses() == [Addr4(0xc000_02fa), Addr4(0xc000_02fb)].as_slice());
+    assert!(rt; edge.pool4.addresses() == [Addr4(0xc000_02fd)].as_slice());
     Ok(())
 }
 

@@ -13,7 +13,8 @@ use arrayvec::ArrayString;
 use siit_roles::Role;
 use toml::Table;
 
-/// Refuses a table with a key that its level doesn't have: the top level, where there is no role, or a device with this role.
+/// Refuses a table with a key that its level doesn't have: the top level, where there is no role, or a device with this
+/// role.
 pub(crate) fn no_others(keys: &Keys, role: Option<Role>) -> Result<(), ConfigFault>
     ensures { let told = no_others keys.now.device (known_keys role) (table_view keys.now.table.now) in
         MatchResult result (λ _. told ≡ Ok tt) (λ e. Tells e told) }
@@ -49,6 +50,7 @@ fn is_key(role: Option<Role>, name: &str) -> bool
         | "prefix"
         | "address4"
         | "address6"
+        | "pool4"
         | "mtu4"
         | "mtu6"
         | "lowest_mtu6"

@@ -1,9 +1,13 @@
--- The longest entry that holds an address, found by a scan.
+-- The longest entry that holds an address. Every list has one: one more entry at its end is it, or leaves it as it was.
 use Rattle.std.proofs.Common.{◌≡◌, ℕ, zero, suc, ◌+◌, ◌<◌, ◌≤◌, Bool, true, false, not, ◌&&◌, ◌||◌, List, [], ◌∷◌, ◌++◌, length, Option, Some, None, cond, leb, ltb, refl, sym, ap, subst, ◌∙◌, arith, append_assoc, append-nil, ◌⊎◌, inl, inr}
 use Rattle.std.specs.List.{slice_get, list_all, find, enumerate_from}
 use Rattle.std.proofs.lemmas.Bool.Decides.{nat_tests}
 use Rattle.std.proofs.lemmas.Option.{slice_get_within, same_Some}
-use Rattle.siit_eamt.specs.Scan.{longer}
+
+-- the longest so far and one more entry with its place: the entry where it passes and is longer
+abbrev pub longer : {X : Type 0} → (X → Bool) → (X → ℕ) → Option (ℕ × X) → ℕ × X → Option (ℕ × X)
+longer holds len None next = cond (holds next.1) (Some next) None
+longer holds len (Some best) next = cond (holds next.1 && ltb (len best.1) (len next.1)) (Some next) (Some best)
 
 pub slice_get-push_kept : {X : Type 0} (xs : List X) (y : X) (k : ℕ) (x : X) → slice_get xs k ≡ Some x → slice_get (xs ++ y ∷ []) k ≡ Some x
 slice_get-push_kept [] y k x h = cc

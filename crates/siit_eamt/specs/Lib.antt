@@ -1,6 +1,6 @@
 pub mod Entries
-pub mod Scan
 pub mod Faults
-pub mod Seen
 pub mod Disjoint
+pub mod Standing
 pub mod Table
+pub mod Trie

@@ -1,3 +1,4 @@
+//! Whether prefixes overlap, found by their order.
 ghost use Rattle.std.specs.Prelude.{◌≡◌, ◌↔◌, false, All, IsTrue, length};
 ghost use Rattle.std.specs.List.{AllAdjacentBelow};
 ghost use Rattle.siit_addr.specs.Addresses.{overlap};

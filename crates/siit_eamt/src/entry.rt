@@ -1,3 +1,4 @@
+//! An entry of the table (RFC 7757 section 3), and what a look-up answers.
 ghost use Rattle.std.specs.Prelude.{◌≡◌, ◌+◌, ◌-◌, true};
 
 use siit_addr::{Addr4, Addr6, Prefix4, Prefix6};

@@ -2,10 +2,12 @@
 #![tactic(auto)]
 
 mod apart;
-mod check;
 mod entry;
+mod sorted;
 mod steps;
 mod table;
+mod trie;
+mod tries;
 
 pub use entry::{Eam, EamFault, Hit4, Hit6};
 pub use steps::Steps;

@@ -1,3 +1,4 @@
+//! A counter of what a look-up reads.
 ghost use Rattle.std.specs.Prelude.{◌≡◌, ◌+◌, ◌<◌};
 
 use std::marker::Model;

@@ -1,15 +1,17 @@
-ghost use Rattle.std.specs.Prelude.{◌≡◌, ◌+◌, ◌<◌, ◌≤◌, ◌↔◌, ◌⊎◌, Err, IfErr, IfOk, IsTrue, None, OnOk, Some, length, option_map};
+//! The table, and its look-ups.
+ghost use Rattle.std.specs.Prelude.{◌≡◌, ◌+◌, ◌<◌, ◌≤◌, ◌⊎◌, Err, IfErr, IfOk, None, OnOk, Some, length, option_map};
 ghost use Rattle.std.specs.List.{slice_get};
-ghost use Rattle.siit_eamt.specs.Disjoint.{IsDisjoint};
-ghost use Rattle.siit_eamt.specs.Entries.{back, forth, holds4, holds6, length4, length6};
+ghost use Rattle.siit_eamt.specs.Disjoint.{is_disjoint};
+ghost use Rattle.siit_eamt.specs.Entries.{back, forth};
 ghost use Rattle.siit_eamt.specs.Faults.{table_fault};
-ghost use Rattle.siit_eamt.specs.Scan.{longer};
 ghost use Rattle.siit_eamt.specs.declared.entry.EamFault.TheVariants.{NoMemory, TooMany};
 
 use crate::apart::{are_apart4, are_apart6, are_clear_of};
-use crate::check::{check, sorted4, sorted6};
 use crate::entry::{Eam, EamFault, Hit4, Hit6};
+use crate::sorted::{sorted4, sorted6};
 use crate::steps::Steps;
+use crate::trie::Bits;
+use crate::tries::Tries;
 use siit_addr::{Addr4, Addr6, Prefix4, Prefix6};
 use std::alloc::Global;
 use std::marker::Model;
@@ -19,6 +21,7 @@ use std::sync::ledger::Ledger;
 #[derive(Drop)]
 pub struct Eamt {
     pub(crate) entries: Vec<Eam>,
+    pub(crate) tries: Tries,
     pub(crate) sorted4: Vec<Prefix4>,
     pub(crate) sorted6: Vec<Prefix6>,
 }
@@ -32,19 +35,17 @@ impl Model for Eamt {
 
     ghost view = { λ t. t.entries.items };
 
-    ghost invariant = { λ t. IsTable t.entries.items t.sorted4.items t.sorted6.items };
+    ghost invariant = { λ t.
+        IsTable t.entries.items t.tries.trie4.nodes.items t.tries.trie6.nodes.items t.sorted4.items t.sorted6.items };
 }
-
-/// An entry with its place.
-type Placed = (u32, Eam);
 
 /// How many entries a table may have.
 const MOST_ENTRIES: usize = 65_536;
 
 impl Eamt {
-    /// The table of these entries (RFC 7757 section 3.1). Above 65,536 of them the fault is `TooMany`; else it is that of the
-    /// first entry at fault, whose faults come in the order of [`EamFault`], or `NoMemory` before any of these. Prefixes may lie
-    /// inside one another; that none may stand twice is this project's own rule.
+    /// The table of these entries (RFC 7757 section 3.1). Above 65,536 of them the fault is `TooMany`; else it is that
+    /// of the first entry at fault, whose faults come in the order of [`EamFault`], or `NoMemory` before any of these.
+    /// Prefixes may lie inside one another; that none may stand twice is this project's own rule.
     pub fn build(alloc: Global, entries: &[Eam]) -> Result<Eamt, EamFault>
         ensures accepted { IfOk result (λ table. table ≡ entries.now) }
         ensures faultless { OnOk result (table_fault entries.now ≡ None) }
@@ -54,12 +55,13 @@ impl Eamt {
         if entries.len() > MOST_ENTRIES {
             return Err(EamFault::TooMany);
         }
-        check(alloc, entries)?;
+        let tries = Tries::build(alloc, entries)?;
         let sorted4 = sorted4(alloc, entries)?;
         let sorted6 = sorted6(alloc, entries)?;
         let entries = Vec::from_slice(alloc, entries)?;
         Ok(Eamt {
             entries,
+            tries,
             sorted4,
             sorted6,
         })
@@ -73,42 +75,36 @@ impl Eamt {
         &self.entries
     }
 
-    /// The entry of greatest IPv4 length among all that hold the address, and the IPv6 address (RFC 7757 section 3.3.1). `None`
-    /// where no entry holds it. Each entry that is read counts as one step.
+    /// The entry of greatest IPv4 length among all that hold the address, and the IPv6 address (RFC 7757 section
+    /// 3.3.1). `None` where no entry holds it. Each node of the trie that is read counts as one step, and so does the
+    /// entry that is answered.
     pub fn find4<L: Ledger>(&self, a: Addr4, steps: &mut Steps<L>) -> Option<Hit6>
         ensures found { option_map (λ hit. (hit.entry, hit.address.0)) result ≡ forth self.now a.0 }
-        ensures cost { steps.new ≤ steps.old + length self.now }
+        ensures cost { steps.new ≤ steps.old + 34 }
         ensures counted { steps.old ≤ steps.new }
     {
-        let mut best = None;
-        for place in 0..self.len() {
-            let entry = self.read(place, steps);
-            best = longer4(best, (place, entry), a);
-        }
-        let Some((entry, eam)) = best else {
+        let Some(entry) = self.tries.trie4.longest(Bits::of4(a), steps) else {
             return None;
         };
+        let eam = self.read(entry, steps);
         Some(Hit6 {
             entry,
             address: eam.up(a),
         })
     }
 
-    /// The entry of greatest IPv6 length among all that hold the address, and the IPv4 address (RFC 7757 section 3.3.2). `None`
-    /// where no entry holds it. Each entry that is read counts as one step.
+    /// The entry of greatest IPv6 length among all that hold the address, and the IPv4 address (RFC 7757 section
+    /// 3.3.2). `None` where no entry holds it. Each node of the trie that is read counts as one step, and so does the
+    /// entry that is answered.
     pub fn find6<L: Ledger>(&self, x: Addr6, steps: &mut Steps<L>) -> Option<Hit4>
         ensures found { option_map (λ hit. (hit.entry, hit.address.0)) result ≡ back self.now x.0 }
-        ensures cost { steps.new ≤ steps.old + length self.now }
+        ensures cost { steps.new ≤ steps.old + 130 }
         ensures counted { steps.old ≤ steps.new }
     {
-        let mut best = None;
-        for place in 0..self.len() {
-            let entry = self.read(place, steps);
-            best = longer6(best, (place, entry), x);
-        }
-        let Some((entry, eam)) = best else {
+        let Some(entry) = self.tries.trie6.longest(Bits::of6(x), steps) else {
             return None;
         };
+        let eam = self.read(entry, steps);
         Some(Hit4 {
             entry,
             address: eam.down(x),
@@ -117,14 +113,14 @@ impl Eamt {
 
     /// Whether no two IPv4 prefixes overlap, no two IPv6 prefixes overlap, and no IPv6 prefix overlaps `prefix`.
     pub fn is_disjoint(&self, prefix: Prefix6) -> bool
-        ensures { IsTrue result ↔ IsDisjoint self.now prefix }
+        ensures { result ≡ is_disjoint self.now prefix }
     {
         are_apart4(&self.sorted4)
             && are_apart6(&self.sorted6)
             && are_clear_of(&self.entries, prefix)
     }
 
-    /// The entry at a place. It is the only way in which a look-up reads the table, and one step.
+    /// The entry at a place. It is the only way in which a look-up reads an entry, and one step.
     fn read<L: Ledger>(&self, place: u32, steps: &mut Steps<L>) -> Eam
         requires { place < length self.now }
         ensures entry { slice_get self.now place ≡ Some result }
@@ -132,34 +128,5 @@ impl Eamt {
     {
         steps.tick();
         self.entries[place as usize]
-    }
-
-    /// How many entries there are, at most 65,536.
-    fn len(&self) -> u32
-        ensures value { result ≡ length self.now }
-        ensures accepted { table_fault self.now ≡ None }
-    {
-        self.entries.len() as u32
-    }
-}
-
-/// The longest so far and one more entry: the entry where it holds the address and is longer.
-fn longer4(best: Option<Placed>, next: Placed, a: Addr4) -> Option<Placed>
-    ensures { result ≡ longer (holds4 a.0) length4 best next }
-{
-    match best {
-        Some((_, entry)) if entry.p4.len >= next.1.p4.len => best,
-        _ if next.1.p4.holds(a) => Some(next),
-        _ => best,
-    }
-}
-
-fn longer6(best: Option<Placed>, next: Placed, x: Addr6) -> Option<Placed>
-    ensures { result ≡ longer (holds6 x.0) length6 best next }
-{
-    match best {
-        Some((_, entry)) if entry.p6.len >= next.1.p6.len => best,
-        _ if next.1.p6.holds(x) => Some(next),
-        _ => best,
     }
 }

@@ -1,3 +1,4 @@
+//! Tables that are built and asked.
 ghost use Rattle.std.specs.Prelude.{◌≡◌, ◌<◌};
 
 use crate::{Eam, EamFault, Eamt, Hit4, Hit6, Steps};
@@ -98,6 +99,51 @@ fn looks_up(rt: HostRuntime) {
     assert!(rt; !table.is_disjoint(prefix6(0x64ff9b << 96, 96)));
 }
 
+/// The first bits of an address, all others being zero.
+fn first4(a: u32, len: u8) -> u32 {
+    a & !u32::MAX.checked_shr(u32::from(len)).unwrap_or(0)
+}
+
+fn first6(x: u128, len: u8) -> u128 {
+    x & !u128::MAX.checked_shr(u32::from(len)).unwrap_or(0)
+}
+
+/// Prefixes of every length inside one another: an address that differs from theirs at one bit has the one that ends
+/// before it.
+#[test]
+fn looks_up_nested(rt: HostRuntime) {
+    let a = 0xc633_6407u32;
+    let x = (0x2001_0db8_000a << 80) + 0xc633_6407u128;
+    let mut entries = Vec::new(rt.alloc());
+    let mut rows4 = Vec::new(rt.alloc());
+    let mut rows6 = Vec::new(rt.alloc());
+    for len in 0..=32u8 {
+        entries
+            .push(entry(first4(a, len), len, first6(x, 96 + len), 96 + len))
+            .expect(&rt, "memory");
+        let other = a ^ 0x8000_0000u32.checked_shr(u32::from(len)).unwrap_or(0);
+        let there = (x ^ u128::from(a)) | u128::from(other);
+        rows4
+            .push((other, Some((u32::from(len), there))))
+            .expect(&rt, "memory");
+        rows6
+            .push((there, Some((u32::from(len), other))))
+            .expect(&rt, "memory");
+    }
+    for len in 0..96u8 {
+        let alone = 0x0a00_0000 + u32::from(len);
+        entries
+            .push(entry(alone, 32, first6(x, len), len))
+            .expect(&rt, "memory");
+        let other = x ^ (1u128 << 127).checked_shr(u32::from(len)).unwrap_or(0);
+        rows6
+            .push((other, Some((33 + u32::from(len), alone))))
+            .expect(&rt, "memory");
+    }
+    let table = Eamt::build(rt.alloc(), &entries).expect(&rt, "a table");
+    look_up::<Brand>(&rt, &table, Blank::new(1), &rows4, &rows6);
+}
+
 /// The first entry at fault is named, by the first of its faults, and the least place that has its prefix.
 #[test]
 fn refuses_entries(rt: HostRuntime) {
@@ -140,4 +186,15 @@ fn counts_entries(rt: HostRuntime) {
     let _last = entries.pop();
     let table = Eamt::build(rt.alloc(), &entries).expect(&rt, "a table");
     assert!(rt; table.is_disjoint(prefix6(0x64ff9b << 96, 96)));
+    look_up::<Brand>(
+        &rt,
+        &table,
+        Blank::new(1),
+        &[
+            (0x00ab_cd01, Some((0xabcd, 0x00ab_cd01))),
+            (0x00ff_ffff, Some((0xffff, 0x00ff_ffff))),
+            (0x0100_0000, None),
+        ],
+        &[(7, Some((0, 7))), (1 << 24, None)],
+    );
 }

@@ -1,3 +1,4 @@
 pub mod Icmp
+pub mod Errors
 pub mod Parts
 pub mod Examples

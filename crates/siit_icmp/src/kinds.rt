@@ -1,6 +1,8 @@
+//! Types and codes of ICMP messages (RFC 7915 sections 4.2 and 5.2).
 ghost use Rattle.std.specs.Prelude.{◌≡◌, option_map};
-ghost use Rattle.siit_icmp.specs.Icmp.{icmp_to_4, icmp_to_6};
-ghost use Rattle.siit_icmp.specs.Parts.{any_code_to_4, any_code_to_6, error4, error6, one_code_to_4, one_code_to_6, pair_of};
+ghost use Rattle.siit_icmp.specs.Icmp.{icmp_to_4, icmp_to_6, new};
+ghost use Rattle.siit_icmp.specs.declared.kinds.Rest.TheVariants.{Same};
+ghost use Rattle.siit_icmp.specs.Parts.{any_code_to_4, any_code_to_6, echo_row_to_4, echo_row_to_6, error4, error6, one_code_to_4, one_code_to_6, pair_of};
 
 use siit_rules::{Rule, cases};
 
@@ -17,6 +19,8 @@ pub enum Rest {
     Pointer,
     /// A pointer to the next header of IPv6, at 6.
     PointerSix,
+    /// The length octet of the new message, and zeros (RFC 4884 section 4).
+    Length,
 }
 
 /// The type and code of a translated ICMP message, and what bytes 4 to 7 hold.
@@ -37,11 +41,14 @@ macro_rules! messages {
     };
 }
 
-/// The ICMPv6 type and code for those of an ICMPv4 message (RFC 7915 section 4.2). Refuses `IcmpType4` where no message of
-/// the type is translated, and `IcmpCode4` where others of the type are.
+/// The ICMPv6 type and code for those of an ICMPv4 message (RFC 7915 section 4.2). Refuses `IcmpType4` where no message
+/// of the type is translated, and `IcmpCode4` where others of the type are.
 pub fn type46(kind: u8, code: u8) -> Result<NewKind, Rule>
     ensures { result ≡ icmp_to_6 kind code }
 {
+    if let Some(kind) = echo46(kind) {
+        return Ok(echo(kind, code));
+    }
     if let Some(new) = any_code46(kind, code) {
         return Ok(new);
     }
@@ -51,11 +58,14 @@ pub fn type46(kind: u8, code: u8) -> Result<NewKind, Rule>
     })
 }
 
-/// The ICMPv4 type and code for those of an ICMPv6 message (RFC 7915 section 5.2). Refuses `IcmpType6` where no message of
-/// the type is translated, and `IcmpCode6` where others of the type are.
+/// The ICMPv4 type and code for those of an ICMPv6 message (RFC 7915 section 5.2). Refuses `IcmpType6` where no message
+/// of the type is translated, and `IcmpCode6` where others of the type are.
 pub fn type64(kind: u8, code: u8) -> Result<NewKind, Rule>
     ensures { result ≡ icmp_to_4 kind code }
 {
+    if let Some(kind) = echo64(kind) {
+        return Ok(echo(kind, code));
+    }
     if let Some(new) = any_code64(kind, code) {
         return Ok(new);
     }
@@ -65,55 +75,69 @@ pub fn type64(kind: u8, code: u8) -> Result<NewKind, Rule>
     })
 }
 
-/// The messages of ICMPv4 that are translated whatever their code is.
-fn any_code46(kind: u8, code: u8) -> Option<NewKind>
-    ensures { result ≡ any_code_to_6 kind code }
+/// The ICMPv6 type of an ICMPv4 echo request or reply (RFC 7915 section 4.2). None of every other message.
+pub fn echo46(kind: u8) -> Option<u8>
+    ensures { result ≡ echo_row_to_6 kind }
 {
-    let kinds = cases! {
-        0 => 129;
-        8 => 128;
-        11 => 3;
-    };
-    match kinds.find(u16::from(kind))? as u8 {
-        3 => Some(NewKind {
-            kind: 3,
-            code,
-            rest: Rest::Zero,
-        }),
-        new_kind => Some(NewKind {
-            kind: new_kind,
-            code,
-            rest: Rest::Same,
-        }),
+    match kind {
+        8 => Some(128),
+        0 => Some(129),
+        _ => None,
     }
 }
 
-/// The messages of ICMPv6 that are translated whatever their code is.
+/// The ICMPv4 type of an ICMPv6 echo request or reply (RFC 7915 section 5.2). None of every other message.
+pub fn echo64(kind: u8) -> Option<u8>
+    ensures { result ≡ echo_row_to_4 kind }
+{
+    match kind {
+        128 => Some(8),
+        129 => Some(0),
+        _ => None,
+    }
+}
+
+/// An echo message of this type, which keeps its code, its identifier and its sequence number.
+fn echo(kind: u8, code: u8) -> NewKind
+    ensures { result ≡ new kind code Same }
+{
+    NewKind {
+        kind,
+        code,
+        rest: Rest::Same,
+    }
+}
+
+/// The errors of ICMPv4 that are translated whatever their code is.
+fn any_code46(kind: u8, code: u8) -> Option<NewKind>
+    ensures { result ≡ any_code_to_6 kind code }
+{
+    match kind {
+        11 => Some(NewKind {
+            kind: 3,
+            code,
+            rest: Rest::Length,
+        }),
+        _ => None,
+    }
+}
+
+/// The errors of ICMPv6 that are translated whatever their code is.
 fn any_code64(kind: u8, code: u8) -> Option<NewKind>
     ensures { result ≡ any_code_to_4 kind code }
 {
-    let kinds = cases! {
-        2 => 3;
-        3 => 11;
-        128 => 8;
-        129 => 0;
-    };
-    match kinds.find(u16::from(kind))? as u8 {
-        3 => Some(NewKind {
+    match kind {
+        2 => Some(NewKind {
             kind: 3,
             code: 4,
             rest: Rest::Mtu,
         }),
-        11 => Some(NewKind {
+        3 => Some(NewKind {
             kind: 11,
             code,
-            rest: Rest::Zero,
+            rest: Rest::Length,
         }),
-        new_kind => Some(NewKind {
-            kind: new_kind,
-            code,
-            rest: Rest::Same,
-        }),
+        _ => None,
     }
 }
 
@@ -172,7 +196,7 @@ fn new_error6(kind: u8, code: u8) -> NewKind
         (2, _) => Rest::Mtu,
         (4, 0) => Rest::Pointer,
         (4, _) => Rest::PointerSix,
-        _ => Rest::Zero,
+        _ => Rest::Length,
     };
     NewKind { kind, code, rest }
 }
@@ -181,9 +205,10 @@ fn new_error6(kind: u8, code: u8) -> NewKind
 fn new_error4(kind: u8, code: u8) -> NewKind
     ensures { result ≡ error4 kind code }
 {
-    let rest = match kind {
-        12 => Rest::Pointer,
-        _ => Rest::Zero,
+    let rest = match (kind, code) {
+        (12, _) => Rest::Pointer,
+        (_, 2) => Rest::Zero,
+        _ => Rest::Length,
     };
     NewKind { kind, code, rest }
 }

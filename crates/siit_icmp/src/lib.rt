@@ -3,11 +3,13 @@
 
 ghost use Rattle.siit_icmp.specs.Examples.{IcmpExamples};
 
+mod errors;
 mod kinds;
 mod mtu;
 mod pointers;
 
-pub use kinds::{NewKind, Rest, type46, type64};
+pub use errors::{is_error_kind4, is_error_kind6};
+pub use kinds::{NewKind, Rest, echo46, echo64, type46, type64};
 pub use mtu::{mtu46, mtu64};
 pub use pointers::{pointer46, pointer64};
 
@@ -34,7 +36,7 @@ mod tests {
         let port = NewKind {
             kind: 3,
             code: 3,
-            rest: Rest::Zero,
+            rest: Rest::Length,
         };
         assert_eq!(rt; type64(1, 4), Ok(port));
         assert_eq!(rt; type64(1, 5), Err(Rule::IcmpCode6));

@@ -1,3 +1,4 @@
+//! MTUs of ICMP errors (RFC 7915 sections 4.2 and 5.2).
 ghost use Rattle.std.specs.Prelude.{◌≡◌, ◌≤◌};
 ghost use Rattle.siit_icmp.specs.Icmp.{mtu_to_4, mtu_to_6, plateau_below};
 
@@ -9,9 +10,10 @@ const PLATEAUS: [u16; 11] = [
     65535, 32000, 17914, 8166, 4352, 2002, 1492, 1006, 508, 296, 68,
 ];
 
-/// The MTU of an ICMPv6 Packet Too Big for the MTU `m` of an ICMPv4 error that quotes a packet of `quoted_total` bytes, where the
-/// links of the translator carry `mtu4` and `mtu6` bytes, `mtu6` at least 1,280 (RFC 7915 section 4.2). Where a router gave no
-/// MTU, it is the greatest plateau below the quoted packet.
+/// The MTU of an ICMPv6 Packet Too Big for the MTU `m` of an ICMPv4 error that quotes a packet of `quoted_total` bytes,
+/// where the links of the translator carry `mtu4` and `mtu6` bytes, `mtu6` at least 1,280 (RFC 7915 section 4.2). Where
+/// a router gave no MTU, the plateau below the quoted packet, of at least 1,280, stands in its place, and without such
+/// a plateau the result is 1,280.
 pub fn mtu46(m: u16, quoted_total: u16, mtu4: u16, mtu6: u16) -> u32
     requires { 1280 ≤ mtu6 }
     ensures value { result ≡ mtu_to_6 m quoted_total mtu4 mtu6 }
@@ -30,9 +32,9 @@ pub fn mtu46(m: u16, quoted_total: u16, mtu4: u16, mtu6: u16) -> u32
         .max(u32::from(LEAST_MTU6))
 }
 
-/// The MTU of an ICMPv4 error for the MTU `m` of an ICMPv6 Packet Too Big, where the links of the translator carry `mtu4` and
-/// `mtu6` bytes, `mtu6` at least 1,280 (RFC 7915 section 5.2): at least 68 where the links carry as much, the least that IPv4
-/// has (RFC 791 section 3.2).
+/// The MTU of an ICMPv4 error for the MTU `m` of an ICMPv6 Packet Too Big, where the links of the translator carry
+/// `mtu4` and `mtu6` bytes, `mtu6` at least 1,280 (RFC 7915 section 5.2): at least 68 where the links carry as much,
+/// the least that IPv4 has (RFC 791 section 3.2).
 pub fn mtu64(m: u32, mtu4: u16, mtu6: u16) -> u16
     requires { 1280 ≤ mtu6 }
     ensures { result ≡ mtu_to_4 m mtu4 mtu6 }

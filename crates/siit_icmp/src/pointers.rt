@@ -1,10 +1,11 @@
+//! Pointers of Parameter Problems (RFC 7915 sections 4.2 and 5.2).
 ghost use Rattle.std.specs.Prelude.{◌≡◌};
 ghost use Rattle.siit_icmp.specs.Icmp.{pointer_to_4, pointer_to_6};
 
 use siit_rules::cases;
 
-/// The pointer of an ICMPv6 Parameter Problem for that of an ICMPv4 one (RFC 7915 section 4.2, figure 3). None where the field that it
-/// points to has no counterpart.
+/// The pointer of an ICMPv6 Parameter Problem for that of an ICMPv4 one (RFC 7915 section 4.2, figure 3). None where
+/// the field that it points to has no counterpart.
 pub fn pointer46(p: u8) -> Option<u32>
     ensures { result ≡ pointer_to_6 p }
 {
@@ -21,7 +22,8 @@ pub fn pointer46(p: u8) -> Option<u32>
     Some(u32::from(pointer))
 }
 
-/// The pointer of an ICMPv4 Parameter Problem for that of an ICMPv6 one (RFC 7915 section 5.2, figure 6). None likewise.
+/// The pointer of an ICMPv4 Parameter Problem for that of an ICMPv6 one (RFC 7915 section 5.2, figure 6). None
+/// likewise.
 pub fn pointer64(p: u32) -> Option<u8>
     ensures { result ≡ pointer_to_4 p }
 {

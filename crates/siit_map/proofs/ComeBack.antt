@@ -12,11 +12,12 @@ use Rattle.siit_addr.specs.declared.addr.Prefix6.{Prefix6}
 use Rattle.siit_rfc6052.specs.Embedding.{ExtractsEmbedded, octet_places, gathered}
 use Rattle.siit_eamt.specs.declared.entry.Eam.{Eam as Entry}
 use Rattle.siit_eamt.specs.Entries.{best4, best6, up, down, holds4, holds6, length6, is_good, weight}
-use Rattle.siit_eamt.specs.Disjoint.{overlap6, IsDisjoint}
+use Rattle.siit_eamt.specs.Disjoint.{overlap6}
+use Rattle.siit_eamt.proofs.Disjoint.{IsDisjoint, disjoint_from_test}
 use Rattle.siit_eamt.proofs.Longest.{longest_is}
 use Rattle.siit_eamt.proofs.Powers.{agrees_above}
 use Rattle.siit_eamt.proofs.Ranges.{IsSuffix4-from_held, IsGoodEntry-from_test}
-use Rattle.siit_eamt.proofs.Scans.{held_from_longest, good_from_accepted}
+use Rattle.siit_eamt.proofs.Accepted.{held_from_longest, good_from_accepted}
 use Rattle.siit_map.specs.declared.mapping.Means.TheVariants.{Eam, Prefix}
 use Rattle.siit_map.specs.declared.mapping.MapRefusal.{MapRefusal}
 use Rattle.siit_map.specs.Prefixed.{prefix_refusal, under_prefix, unless_refused, extracted_under, embedded_in, back_under}
@@ -115,7 +116,7 @@ module _ (entries : List Entry) (prefix : Prefix6) (accepted : IsDisjointTable e
       let here = held_from_longest (holds4 a) _ entries i e found in
       let good = good_from_accepted entries accepted.accepted i e here.0 in
       let x = up e a in
-      let again = best_from_alone entries accepted.disjoint.apart6 x i e here.0 (up_held e a good here.1) in
+      let again = best_from_alone entries (disjoint_from_test entries prefix accepted.disjoint).apart6 x i e here.0 (up_held e a good here.1) in
       record {
         address = up e a;
         by = Eam i;
@@ -130,7 +131,7 @@ module _ (entries : List Entry) (prefix : Prefix6) (accepted : IsDisjointTable e
       let x = embedded_in prefix a in
       let extracted = law prefix.len prefix.addr.0 a accepted.embeds accepted.in_range small in
       let held = (cond_some (agree 128 prefix.len (embedded_in prefix a) prefix.addr.0) (gathered (octet_places prefix.len) 0 (embedded_in prefix a)) a extracted).0 in
-      let none = none_from_prefix entries prefix accepted.disjoint (embedded_in prefix a) held in
+      let none = none_from_prefix entries prefix (disjoint_from_test entries prefix accepted.disjoint) (embedded_in prefix a) held in
       record {
         address = embedded_in prefix a;
         by = Prefix;

@@ -1,5 +1,5 @@
--- Addresses under a prefix (RFC 6052), and at a customer's device (RFC 6877). What is refused is this project's own choice;
--- RFC 6052 section 3.1 forbids addresses that aren't global under the well-known prefix.
+-- Addresses under a prefix (RFC 6052), and at a customer's device (RFC 6877). What is refused is this project's own
+-- choice; RFC 6052 section 3.1 forbids addresses that aren't global under the well-known prefix.
 use Rattle.std.specs.Prelude.{ℕ, Bool, ◌&&◌, if◌then◌else◌, Option, Some, None, Result, Ok, Err, is_some}
 use Rattle.siit_addr.specs.Addresses.{agree, dotted, is_non_global_number}
 use Rattle.siit_addr.specs.declared.addr.Prefix4.{Prefix4}

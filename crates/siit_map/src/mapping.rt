@@ -1,4 +1,5 @@
-ghost use Rattle.std.specs.Prelude.{◌≡◌, ◌+◌, ◌≤◌, Err, IfErr, IfOk, IsTrue, None, Ok, length, option_map};
+//! The mapping of a device.
+ghost use Rattle.std.specs.Prelude.{◌≡◌, ◌+◌, ◌≤◌, Err, IfErr, IfOk, IsTrue, None, Ok, option_map};
 ghost use Rattle.siit_eamt.specs.Entries.{forth};
 ghost use Rattle.siit_eamt.specs.Faults.{table_fault};
 ghost use Rattle.siit_rfc6052.specs.Embedding.{is_embedding_prefix};
@@ -28,11 +29,11 @@ pub enum MapRefusal {
     /// Neither an entry nor a prefix holds it, or only the translation prefix is left and the IPv4 address is multicast
     /// (224.0.0.0/4, RFC 5771).
     NoMapping,
-    /// Only the translation prefix is left, it is the well-known one, and the IPv4 address isn't global (RFC 6052 section 3.1;
-    /// which ones aren't: [`is_non_global`]).
+    /// Only the translation prefix is left, it is the well-known one, and the IPv4 address isn't global (RFC 6052
+    /// section 3.1; which ones aren't: [`is_non_global`]).
     WkpNonGlobal,
-    /// An IPv6 address under a customer's local prefix with an IPv4 address that isn't local, or under the provider's prefix with
-    /// one that is.
+    /// An IPv6 address under a customer's local prefix with an IPv4 address that isn't local, or under the provider's
+    /// prefix with one that is.
     LocalMismatch,
 }
 
@@ -88,8 +89,8 @@ impl Mapping {
         }
     }
 
-    /// The IPv6 address of an IPv4 address, or why it has none (RFC 7757 section 3.3.1, RFC 6052 section 2.2). Each entry that is
-    /// read counts as one step.
+    /// The IPv6 address of an IPv4 address, or why it has none (RFC 7757 section 3.3.1, RFC 6052 section 2.2). Each
+    /// step is a node or an entry of the table that is read.
     pub fn to6<L: Ledger>(
         &self,
         a: Addr4,
@@ -97,7 +98,7 @@ impl Mapping {
     ) -> Result<(Addr6, Means), MapRefusal>
         ensures mapped { IfOk result (λ mapped. ipv6_for self.now a.0 ≡ Ok (mapped.0.0, mapped.1)) }
         ensures refused { IfErr result (λ refusal. ipv6_for self.now a.0 ≡ Err refusal) }
-        ensures cost { steps.new ≤ steps.old + length (entries_of self.now) }
+        ensures cost { steps.new ≤ steps.old + 34 }
         ensures counted { steps.old ≤ steps.new }
     {
         match &self.kind {
@@ -118,8 +119,8 @@ impl Mapping {
         }
     }
 
-    /// The IPv4 address of an IPv6 address, or why it has none (RFC 7757 section 3.3.2, RFC 6052 section 2.2). Each entry that is
-    /// read counts as one step.
+    /// The IPv4 address of an IPv6 address, or why it has none (RFC 7757 section 3.3.2, RFC 6052 section 2.2). Each
+    /// step is a node or an entry of the table that is read.
     pub fn to4<L: Ledger>(
         &self,
         x: Addr6,
@@ -127,7 +128,7 @@ impl Mapping {
     ) -> Result<(Addr4, Means), MapRefusal>
         ensures mapped { IfOk result (λ mapped. ipv4_for self.now x.0 ≡ Ok (mapped.0.0, mapped.1)) }
         ensures refused { IfErr result (λ refusal. ipv4_for self.now x.0 ≡ Err refusal) }
-        ensures cost { steps.new ≤ steps.old + length (entries_of self.now) }
+        ensures cost { steps.new ≤ steps.old + 130 }
         ensures counted { steps.old ≤ steps.new }
     {
         match &self.kind {
@@ -143,11 +144,11 @@ impl Mapping {
         }
     }
 
-    /// The entry of an IPv4 address, and the address that it gives, or `None` where no entry holds it. A customer has no entries.
-    /// Each entry that is read counts as one step.
+    /// The entry of an IPv4 address, and the address that it gives, or `None` where no entry holds it. A customer has
+    /// no entries. Each step is a node or an entry of the table that is read.
     pub fn eam_of<L: Ledger>(&self, a: Addr4, steps: &mut Steps<L>) -> Option<Hit6>
         ensures found { option_map (λ hit. (hit.entry, hit.address.0)) result ≡ forth (entries_of self.now) a.0 }
-        ensures cost { steps.new ≤ steps.old + length (entries_of self.now) }
+        ensures cost { steps.new ≤ steps.old + 34 }
         ensures counted { steps.old ≤ steps.new }
     {
         match &self.kind {
@@ -156,8 +157,8 @@ impl Mapping {
         }
     }
 
-    /// The form of an IPv4 address under the translation prefix, the entries not being asked. `None` where the address is
-    /// multicast, or isn't global and the prefix is the well-known one.
+    /// The form of an IPv4 address under the translation prefix, the entries not being asked. `None` where the address
+    /// is multicast, or isn't global and the prefix is the well-known one.
     pub fn prefix_of(&self, a: Addr4) -> Option<Addr6>
         ensures { option_map (λ x. x.0) result ≡ prefix_form (prefix_in self.now) a.0 }
     {

@@ -1,3 +1,4 @@
+//! Addresses that are mapped by a table and by a customer.
 ghost use Rattle.std.specs.Prelude.{◌≡◌, ◌<◌};
 
 use crate::{MapRefusal, Mapping, Means};

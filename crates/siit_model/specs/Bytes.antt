@@ -1,5 +1,5 @@
 -- Fields inside a list of bytes, the highest byte first, as the headers of RFC 791 and RFC 8200 have them.
-use Rattle.std.specs.Prelude.{ℕ, ◌+◌, ◌*◌, ◌^◌, ◌<◌, List, ◌++◌, take, drop, slice_index}
+use Rattle.std.specs.Prelude.{ℕ, ◌+◌, ◌*◌, ◌^◌, ◌<◌, List, ◌++◌, take, drop, slice_index, Bool, if◌then◌else◌}
 use Rattle.std.specs.Int.{bytes_high_first}
 
 -- each number of the list is a byte
@@ -40,3 +40,7 @@ with_field16 bytes place value = take place bytes ++ bytes16 value ++ drop (plac
 
 abbrev pub with_field32 : List ℕ → ℕ → ℕ → List ℕ
 with_field32 bytes place value = take place bytes ++ bytes32 value ++ drop (place + 4) bytes
+
+-- a flag as the bit that is written
+abbrev pub flag_bit : Bool → ℕ
+flag_bit flag = if flag then 1 else 0

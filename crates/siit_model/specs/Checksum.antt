@@ -1,6 +1,6 @@
 -- The Internet checksum: residues of bytes (RFC 1071), and checksums that are moved by a difference (RFC 1624).
 use Rattle.std.specs.Prelude.{◌≡◌, ℕ, ◌+◌, ◌*◌, ◌-◌, ◌%◌, List, [], ◌∷◌, ◌++◌, if◌then◌else◌, ◌==◌, Option, Some, None}
-use Rattle.siit_model.specs.Bytes.{bytes16, bytes32, bytes128}
+use Rattle.siit_model.specs.Bytes.{bytes16, bytes32, bytes128, field16, with_field16}
 
 -- the sum of the 16-bit words, an odd last byte being padded with zero
 abbrev pub words_sum : List ℕ → ℕ
@@ -32,8 +32,16 @@ without_zero checksum = if checksum == 0 then 65535 else checksum
 abbrev pub moved_udp : ℕ → ℕ → ℕ → ℕ
 moved_udp checksum old new = without_zero (moved checksum old new)
 
--- The residue of the pseudo-header of IPv4 (RFC 793 section 3.1): addresses, protocol, length of the upper part. ICMPv4 has
--- none, so that this isn't asked for protocol 1.
+-- The checksum at a place of bytes that come in place of others (RFC 1624): the residue of pseudo-header and bytes,
+-- their checksum among them, is the same before and after. The pseudo-headers are told by their residues, and the field
+-- itself is counted as zero.
+abbrev pub moved_between : (place old_pseudo new_pseudo : ℕ) → (old new : List ℕ) → ℕ
+moved_between place old_pseudo new_pseudo old new =
+    moved (field16 old place)
+    ((old_pseudo + residue (with_field16 old place 0)) % 65535) ((new_pseudo + residue (with_field16 new place 0)) % 65535)
+
+-- The residue of the pseudo-header of IPv4 (RFC 793 section 3.1): addresses, protocol, length of the upper part. ICMPv4
+-- has none, so that this isn't asked for protocol 1.
 abbrev pub pseudo4 : (source destination protocol upper_length : ℕ) → ℕ
 pseudo4 source destination protocol upper_length =
     residue (bytes32 source ++ bytes32 destination ++ 0 ∷ protocol ∷ bytes16 upper_length)

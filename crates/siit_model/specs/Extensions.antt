@@ -1,6 +1,6 @@
 -- The walk over the extension headers of an IPv6 packet (RFC 8200 section 4), as far as a translator goes.
-use Rattle.std.specs.Prelude.{ℕ, zero, suc, ◌+◌, ◌*◌, ◌/◌, ◌%◌, List, length, drop, Bool, ◌&&◌, ◌||◌, ◌==◌, nat_lt, not, if◌then◌else◌, Option, Some, None, Result, Ok, Err}
-use Rattle.siit_model.specs.Bytes.{field8, field16, field32}
+use Rattle.std.specs.Prelude.{ℕ, zero, suc, ◌+◌, ◌*◌, ◌/◌, ◌%◌, List, ◌∷◌, ◌++◌, length, drop, Bool, ◌&&◌, ◌||◌, ◌==◌, nat_lt, not, if◌then◌else◌, Option, Some, None, Result, Ok, Err}
+use Rattle.siit_model.specs.Bytes.{field8, field16, field32, bytes16, bytes32, flag_bit}
 
 -- a Fragment header's fields (RFC 8200 section 4.5); the offset counts units of 8 bytes
 pub record FragmentFields : Type 0 where
@@ -17,8 +17,8 @@ pub data Trouble : Type 0 where
   -- an extension header behind a Fragment header
   behind_fragment : Trouble
 
--- Where a walk ends: the upper protocol, how many bytes stand before the upper part, the Fragment header if there is one,
--- and the place, from the IPv6 header's first byte, of the first Segments Left octet that isn't 0.
+-- Where a walk ends: the upper protocol, how many bytes stand before the upper part, the Fragment header if there is
+-- one, and the place, from the IPv6 header's first byte, of the first Segments Left octet that isn't 0.
 pub record Walked : Type 0 where
   pub upper : ℕ
   pub at : ℕ
@@ -49,6 +49,10 @@ segments_with at next None rest = if (next == 43) && not (field8 rest 3 == 0) th
 
 abbrev pub fragment_fields : List ℕ → FragmentFields
 fragment_fields rest = record { offset = field16 rest 2 / 8; more = field16 rest 2 % 2 == 1; id = field32 rest 4 }
+
+-- a Fragment header before a header of kind `next`
+abbrev pub fragment_header : (next : ℕ) → FragmentFields → List ℕ
+fragment_header next fields = next ∷ 0 ∷ bytes16 (8 * fields.offset + flag_bit fields.more) ++ bytes32 fields.id
 
 -- the walk at a Fragment header
 abbrev pub walk_at_fragment : ℕ → Option ℕ → List ℕ → Result Walked Trouble

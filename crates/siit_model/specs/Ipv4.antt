@@ -65,17 +65,22 @@ ipv4_of bytes = if is_short4 bytes || is_bad_header4 bytes then None else Some (
 abbrev pub total_length4 : Ipv4Packet → ℕ
 total_length4 packet = 20 + length packet.options + length packet.payload
 
--- the header with a checksum in its field
-abbrev pub ipv4_header : Ipv4Packet → ℕ → List ℕ
-ipv4_header packet checksum =
-    (64 + 5 + length packet.options / 4) ∷ packet.tos ∷ bytes16 (total_length4 packet)
+-- the header with a total length and a checksum in its fields
+abbrev pub ipv4_header : (total : ℕ) → Ipv4Packet → (checksum : ℕ) → List ℕ
+ipv4_header total packet checksum =
+    (64 + 5 + length packet.options / 4) ∷ packet.tos ∷ bytes16 total
     ++ bytes16 packet.id ++ bytes16 (packet.df * 16384 + packet.mf * 8192 + packet.offset)
     ++ packet.ttl ∷ packet.protocol ∷ bytes16 checksum
     ++ bytes32 packet.source ++ bytes32 packet.destination ++ packet.options
 
--- The one written form: the reserved flag 0, the header checksum right and below 65535.
+-- The packet with a total length as it is told, which in a quote may be more than is there. The reserved flag is 0, the
+-- header checksum right and below 65535.
+abbrev pub ipv4_bytes_as : (total : ℕ) → Ipv4Packet → List ℕ
+ipv4_bytes_as total packet = ipv4_header total packet (checksum_of (residue (ipv4_header total packet 0))) ++ packet.payload
+
+-- the one written form
 abbrev pub ipv4_bytes : Ipv4Packet → List ℕ
-ipv4_bytes packet = ipv4_header packet (checksum_of (residue (ipv4_header packet 0))) ++ packet.payload
+ipv4_bytes packet = ipv4_bytes_as (total_length4 packet) packet
 
 -- what has a written form
 pub record IsGoodIpv4 (packet : Ipv4Packet) : Type 0 where

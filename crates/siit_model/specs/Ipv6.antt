@@ -42,13 +42,19 @@ ipv6_fields bytes = record {
 abbrev pub ipv6_of : List ℕ → Option Ipv6Packet
 ipv6_of bytes = if is_short6 bytes || is_bad_header6 bytes then None else Some (ipv6_fields bytes)
 
-abbrev pub ipv6_header : Ipv6Packet → List ℕ
-ipv6_header packet =
-    bytes32 (6 * 2 ^ 28 + packet.class * 2 ^ 20 + packet.flow) ++ bytes16 (length packet.body)
+-- the header with a payload length in its field
+abbrev pub ipv6_header : (len : ℕ) → Ipv6Packet → List ℕ
+ipv6_header len packet =
+    bytes32 (6 * 2 ^ 28 + packet.class * 2 ^ 20 + packet.flow) ++ bytes16 len
     ++ packet.next ∷ packet.hop ∷ bytes128 packet.source ++ bytes128 packet.destination
 
+-- The packet with a payload length as it is told, which in a quote may be more than is there.
+abbrev pub ipv6_bytes_as : (len : ℕ) → Ipv6Packet → List ℕ
+ipv6_bytes_as len packet = ipv6_header len packet ++ packet.body
+
+-- the one written form
 abbrev pub ipv6_bytes : Ipv6Packet → List ℕ
-ipv6_bytes packet = ipv6_header packet ++ packet.body
+ipv6_bytes packet = ipv6_bytes_as (length packet.body) packet
 
 -- what has a written form
 pub record IsGoodIpv6 (packet : Ipv6Packet) : Type 0 where

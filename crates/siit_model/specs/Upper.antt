@@ -1,5 +1,5 @@
 -- What both directions say of an upper part: TCP, UDP or ICMP behind an IP header, perhaps cut.
-use Rattle.std.specs.Prelude.{ℕ, ◌+◌, ◌*◌, List, length, Bool, nat_lt}
+use Rattle.std.specs.Prelude.{ℕ, ◌+◌, List, length, Bool, nat_lt}
 
 -- the addresses of one packet on both sides
 pub record Ends : Type 0 where
@@ -11,7 +11,3 @@ pub record Ends : Type 0 where
 -- a field of 16 bits is in a part that may be cut only where both of its bytes are
 abbrev pub has_field16 : List ℕ → ℕ → Bool
 has_field16 part place = nat_lt (place + 1) (length part)
-
--- the first word of an ICMP message: type and code
-abbrev pub kind_word : ℕ → ℕ → ℕ
-kind_word kind code = kind * 256 + code

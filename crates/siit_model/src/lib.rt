@@ -1,5 +1,5 @@
-//! Definitions of bytes, checksums and packets, in the terms of the RFCs. They run nowhere: contracts of the crates above
-//! cite them. The worked examples are the contracts of functions with no body.
+//! Definitions of bytes, checksums and packets, in the terms of the RFCs. They run nowhere: contracts of the crates
+//! above cite them. The worked examples are the contracts of functions with no body.
 #![tactic(auto)]
 
 ghost use Rattle.siit_model.specs.Examples.{ChecksumExamples, PacketExamples, WalkExamples};

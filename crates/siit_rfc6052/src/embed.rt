@@ -1,3 +1,4 @@
+//! A prefix under which addresses are embedded (RFC 6052 section 2.2).
 ghost use Rattle.std.specs.Prelude.{◌≡◌, IfOk, IsTrue, option_map};
 ghost use Rattle.std.specs.Result.{result_err};
 ghost use Rattle.siit_rfc6052.specs.Embedding.{embedded, extracted, is_embedding_prefix, is_well_known, well_known};
@@ -46,7 +47,8 @@ impl Model for Embed {
 impl Embed {
     ghost use Rattle.siit_rfc6052.specs.Faults.{embed_fault};
 
-    /// Accepts a prefix, or says why it isn't one of RFC 6052 section 2.2: the first fault in the order of [`EmbedFault`].
+    /// Accepts a prefix, or says why it isn't one of RFC 6052 section 2.2: the first fault in the order of
+    /// [`EmbedFault`].
     pub fn new(prefix: Prefix6) -> Result<Embed, EmbedFault>
         ensures accepted { IfOk result (λ e. e ≡ prefix) }
         ensures refused { result_err result ≡ embed_fault prefix.len prefix.addr.0 }
@@ -91,8 +93,8 @@ impl Embed {
         self.prefix.len == 96 && self.prefix.addr.0 == WELL_KNOWN
     }
 
-    /// The IPv6 address that holds this IPv4 address: its octets follow the prefix, byte 8 (bits 64 to 71) holds none, and all
-    /// other bits past the prefix are zero (RFC 6052 section 2.2).
+    /// The IPv6 address that holds this IPv4 address: its octets follow the prefix, byte 8 (bits 64 to 71) holds none,
+    /// and all other bits past the prefix are zero (RFC 6052 section 2.2).
     pub fn embed(&self, a: Addr4) -> Addr6
         ensures { result.0 ≡ embedded self.now.len self.now.addr.0 a.0 }
     {
@@ -109,8 +111,8 @@ impl Embed {
         Addr6(self.prefix.addr.0 + octets)
     }
 
-    /// The IPv4 address inside an IPv6 address, or `None` where the prefix doesn't hold it (RFC 6052 section 2.2). Bytes that hold
-    /// neither the prefix nor an octet aren't read.
+    /// The IPv4 address inside an IPv6 address, or `None` where the prefix doesn't hold it (RFC 6052 section 2.2).
+    /// Bytes that hold neither the prefix nor an octet aren't read.
     pub fn extract(&self, x: Addr6) -> Option<Addr4>
         ensures { option_map (λ a. a.0) result ≡ extracted self.now.len self.now.addr.0 x.0 }
     {

@@ -1,2 +1,5 @@
 pub mod Chain
 pub mod Roles
+pub mod Pool
+pub mod Limits
+pub mod Examples

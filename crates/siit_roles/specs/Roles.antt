@@ -1,5 +1,5 @@
--- What the roles refuse, the first rule in the rules' order. An address whose mapping is refused has no entry and is not local.
--- These rules are this project's own, for the edge relay of RFC 7756 and the customer side of RFC 6877.
+-- What the roles refuse, the first rule in the rules' order. An address whose mapping is refused has no entry and is
+-- not local. These rules are this project's own, for the edge relay of RFC 7756 and the customer side of RFC 6877.
 use Rattle.std.specs.Prelude.{Bool, true, false, not, if◌then◌else◌, Option, Some, None}
 use Rattle.siit_map.specs.declared.mapping.Means.{Means}
 use Rattle.siit_map.specs.declared.mapping.Means.TheVariants.{Eam, Local}

@@ -1,3 +1,4 @@
+//! The settings of a chain.
 ghost use Rattle.std.specs.Prelude.{◌≡◌};
 
 use crate::settings::Settings;

@@ -1,3 +1,4 @@
+//! What a device is for, and what its role refuses.
 ghost use Rattle.std.specs.Prelude.{◌≡◌};
 ghost use Rattle.siit_roles.specs.Roles.{role_refusal4, role_refusal6};
 
@@ -17,10 +18,10 @@ pub enum Role {
     Customer,
 }
 
-/// The rule by which the role drops a packet that arrives on the IPv4 side, from how its source and its destination are mapped;
-/// `None` stands for an address whose mapping is refused. An edge drops by `RoleSource4` what has no entry for its source. A
-/// customer drops by `RoleSource4` what has no local source, and else by `RoleDestination4` what has a local destination. The
-/// other roles drop nothing. The rules are this project's own.
+/// The rule by which the role drops a packet that arrives on the IPv4 side, from how its source and its destination are
+/// mapped; `None` stands for an address whose mapping is refused. An edge drops by `RoleSource4` what has no entry for
+/// its source. A customer drops by `RoleSource4` what has no local source, and else by `RoleDestination4` what has a
+/// local destination. The other roles drop nothing. The rules are this project's own.
 pub fn role_refuses4(role: Role, src: Option<Means>, dst: Option<Means>) -> Option<Rule>
     ensures { result ≡ role_refusal4 role src dst }
 {
@@ -32,10 +33,10 @@ pub fn role_refuses4(role: Role, src: Option<Means>, dst: Option<Means>) -> Opti
     }
 }
 
-/// The rule by which the role drops a packet that arrives on the IPv6 side, from how its source and its destination are mapped;
-/// `None` stands for an address whose mapping is refused. An edge drops by `RoleDestination6` what has no entry for its
-/// destination. A customer drops by `RoleSource6` what has a local source, and else by `RoleDestination6` what has no local
-/// destination. The other roles drop nothing. The rules are this project's own.
+/// The rule by which the role drops a packet that arrives on the IPv6 side, from how its source and its destination are
+/// mapped; `None` stands for an address whose mapping is refused. An edge drops by `RoleDestination6` what has no entry
+/// for its destination. A customer drops by `RoleSource6` what has a local source, and else by `RoleDestination6` what
+/// has no local destination. The other roles drop nothing. The rules are this project's own.
 pub fn role_refuses6(role: Role, src: Option<Means>, dst: Option<Means>) -> Option<Rule>
     ensures { result ≡ role_refusal6 role src dst }
 {

@@ -1,3 +1,4 @@
+//! Tables of cases.
 ghost use Rattle.std.specs.Prelude.{◌≡◌, IsTrue};
 ghost use Rattle.siit_rules.specs.Cases.{keys_increase, value_at};
 

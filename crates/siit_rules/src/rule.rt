@@ -1,3 +1,4 @@
+//! The rules, with number, name and answer.
 ghost use Rattle.std.specs.Prelude.{◌≡◌};
 ghost use Rattle.siit_rules.specs.Rows.{row_of};
 
@@ -232,7 +233,8 @@ macro_rules! rows {
 }
 
 impl Rule {
-    /// The number of the rule, as a report has it: 1 and 2 for records, 10 to 36 on IPv4 arrival, 50 to 76 on IPv6 arrival.
+    /// The number of the rule, as a report has it: 1 and 2 for records, 10 to 36 on IPv4 arrival, 50 to 76 on IPv6
+    /// arrival.
     pub fn number(&self) -> u8
         ensures { result ≡ (row_of self.now).number }
     {

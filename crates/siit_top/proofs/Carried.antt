@@ -1,9 +1,6 @@
 -- Records carried one after another.
-use Rattle.std.proofs.Common.{◌≡◌, ℕ, zero, suc, ◌+◌, ◌≤◌, ◌<◌, List, [], ◌∷◌, ◌++◌, length, take, drop, Bool, true, false, not, Option, Some, None, is_some, option_map, unwrap_or, IsTrue, Result, Ok, Err, OnErr, if◌then◌else◌, count_by, refl, ap, sym, subst, ◌∙◌, arith, append_assoc, ◌^◌, length-append, length-drop}
-use Rattle.std.proofs.lemmas.List.{take_all, drop_at, drop-drop, take-append-le}
-use Rattle.std.proofs.Math.Seq.{take-add}
+use Rattle.std.proofs.Common.{◌≡◌, ℕ, zero, suc, ◌+◌, ◌≤◌, ◌<◌, List, [], ◌∷◌, length, Bool, true, false, not, Option, Some, None, is_some, option_map, unwrap_or, Result, Ok, Err, OnErr, if◌then◌else◌, count_by, refl, ap, sym, ◌∙◌, arith, ◌^◌}
 use Rattle.std.proofs.lemmas.List.Sums.{count_by-le-length, sum_by-cons}
-use Rattle.siit_word.specs.Files.{grown, GrowsBy, GrowsByPrefix}
 use Rattle.siit_top.specs.Counted.{counted, is_dropped}
 use Rattle.siit_top.specs.PlainCapture.{Captured, first_record, behind_record, starts_with_record, records_from}
 use Rattle.siit_top.specs.Turns.{captured, is_plain_from, records_in, IsFirstRecord}
@@ -53,35 +50,6 @@ few_from (suc n) (byte ∷ rest) = few_step (starts_with_record (byte ∷ rest))
 pub few_records : (rest : List ℕ) → length (records_in rest) ≤ length rest
 few_records rest = few_from (length rest) rest
 
--- A file that grew twice grew by both.
-grown_twice : (old : Option (List ℕ)) (a b : List ℕ) → grown (grown old a) b ≡ grown old (a ++ b)
-grown_twice (Some held) a b = ap Some (append_assoc held a b)
-grown_twice None [] b = refl
-grown_twice None (first ∷ rest) b = refl
-
-pub GrowsBy-twice : (old mid new : Option (List ℕ)) (a b : List ℕ) → GrowsBy old mid a → GrowsBy mid new b → GrowsBy old new (a ++ b)
-GrowsBy-twice old mid new a b h k = k ∙ ap (λ o. grown o b) h ∙ grown_twice old a b
-
--- How far the output is: it grew by the first m bytes of all, and what is to come is the rest.
-pub record IsPlace (all todo : List ℕ) (m : ℕ) : Type 0 where
-  pub within : m ≤ length all
-  pub left : todo ≡ drop m all
-
-pub taken_more : (all : List ℕ) (m k : ℕ) (now more : List ℕ) → drop m all ≡ now ++ more → k ≤ length now → take (m + k) all ≡ take m all ++ take k now
-taken_more all m k now more is fits =
-    take-add m k all ∙ ap (λ xs. take m all ++ take k xs) is ∙ ap (λ xs. take m all ++ xs) (take-append-le k now more fits)
-
-pub taken_whole : (now : List ℕ) → take (length now) now ≡ now
-taken_whole now = take_all (length now) now (omega arith)
-
-pub IsPlace-more : (all todo : List ℕ) (m : ℕ) (now more : List ℕ) → IsPlace all todo m → todo ≡ now ++ more → IsPlace all more (m + length now)
-IsPlace-more all todo m now more place is =
-    let split : drop m all ≡ now ++ more = sym place.left ∙ is in
-    record {
-      within = omega (arith, place.within, ap length split, length-drop m all, length-append now more);
-      left = sym (drop_at now more (length now) refl) ∙ sym (ap (drop (length now)) split) ∙ drop-drop (length now) m all;
-    }
-
 -- how many were counted, and how many are to come
 pub record IsCounted (counts : Counts) (todo all : List Captured) : Type 0 where
   pub read : counts.read + length todo ≡ length all
@@ -114,31 +82,6 @@ counts_fit counts first todo more all n h is few within =
     let dropped = count_by-le-length is_dropped all in
     (omega (arith, ap length is), omega (arith, h.carried), omega (arith, h.dropped))
 
-pub GrowsByPrefix-same : (old new : Option (List ℕ)) (a b : List ℕ) → a ≡ b → GrowsByPrefix old new b → GrowsByPrefix old new a
-GrowsByPrefix-same old new a b is h = subst (λ (xs : List ℕ). GrowsByPrefix old new xs) (sym is) h
-
 pub on_err_from : {T E P : Type 0} (r : Result T E) → P → OnErr r P
 on_err_from (Ok x) p = tt
 on_err_from (Err e) p = p
-
--- one record more, whole or cut
-pub grew_more : (old mid new : Option (List ℕ)) (all todo : List ℕ) (m : ℕ) (now more : List ℕ) → IsPlace all todo m → todo ≡ now ++ more → GrowsBy old mid (take m all) → GrowsBy mid new now → GrowsBy old new (take (m + length now) all)
-grew_more old mid new all todo m now more place is before step =
-    GrowsBy-twice old mid new (take m all) now before step
-    ∙ ap (grown old) (sym (taken_more all m (length now) now more (sym place.left ∙ is) (omega arith) ∙ ap (λ xs. take m all ++ xs) (taken_whole now)))
-
-pub grew_part : (old mid new : Option (List ℕ)) (all todo : List ℕ) (m : ℕ) (now more : List ℕ) → IsPlace all todo m → todo ≡ now ++ more → GrowsBy old mid (take m all) → GrowsByPrefix mid new now → GrowsByPrefix old new all
-grew_part old mid new all todo m now more place is before step =
-    let k = step.0 in
-    let split : drop m all ≡ now ++ more = sym place.left ∙ is in (
-      m + k,
-      omega (arith, place.within, step.1, ap length split, length-drop m all, length-append now more),
-      GrowsBy-twice old mid new (take m all) (take k now) before step.2 ∙ ap (grown old) (sym (taken_more all m k now more split step.1)),
-    )
-
-pub grew_all : (old new : Option (List ℕ)) (all todo : List ℕ) (m : ℕ) → IsPlace all todo m → todo ≡ [] → GrowsBy old new (take m all) → GrowsBy old new all
-grew_all old new all todo m place is grew =
-    grew ∙ ap (grown old) (take_all m all (omega (arith, ap length (sym place.left ∙ is), length-drop m all)))
-
-pub told_still : (a b : Bool) → b ≡ a → IsTrue a → IsTrue b
-told_still a b e t = subst (λ (x : Bool). IsTrue x) (sym e) t

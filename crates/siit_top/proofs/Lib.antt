@@ -1,10 +1,13 @@
 pub mod Records
-pub mod Fronts
+pub mod Translated
 pub mod Packets
 pub mod EndLines
 pub mod Carried
 pub mod Outputs
-pub mod Commands
-pub mod Numbers
+pub mod WkpRuns
+pub mod Completed
 pub mod WordCounts
 pub mod MapRuns
+pub mod DiscoverRuns
+pub mod Dns64Reads
+pub mod Dns64Runs

@@ -1,42 +1,115 @@
--- What the status of `map` says.
-use Rattle.std.proofs.Common.{◌≡◌, ◌⊎◌, ℕ, ◌<◌, List, length, Bool, Option, IsTrue, inl, inr, refl, ap, sym, subst}
-use Rattle.std.specs.Prelude.{if◌then◌else◌}
-use Rattle.std.proofs.lemmas.Bool.{lt-ltb}
+-- When `map` may end in which way.
+use Rattle.std.proofs.Common.{◌≡◌, ◌≢◌, ◌⊎◌, ℕ, ◌≤◌, List, [], ◌∷◌, length, Option, Some, None, Result, Ok, Err, inl, inr, refl, ap, subst, arith}
+use Rattle.std.specs.Prelude.{false, nat_lt, if◌then◌else◌}
+use Rattle.std.proofs.lemmas.Bool.Decides.{nat_tests}
+use Rattle.siit_command.specs.Reading.{IsLonger, IsUnread, WasRead}
+use Rattle.siit_command.specs.Words.{Address}
+use Rattle.siit_command.specs.declared.reading.Unread.{Unread}
+use Rattle.siit_command.specs.declared.reading.Unread.TheVariants as unread
 use Rattle.siit_config.specs.Config.{config_of}
-use Rattle.siit_word.specs.Files.{held}
-use Rattle.siit_top.specs.MapRun.{decision, decision_by, too_long, IsMapStatus, IsReadAs, OnDecided, OnWhole, Says}
-use Rattle.siit_top.specs.Words.{Address}
+use Rattle.siit_config.specs.Faults.{Fault}
+use Rattle.siit_roles.specs.Chain.{Chain}
+use Rattle.siit_roles.specs.declared.settings.Settings.{Settings}
+use Rattle.siit_word.specs.Files.{FilesMeaning, ReadFailed, Touches}
+use Rattle.siit_top.specs.MapRun.{decision, decision_at, decision_by, device_at, too_long, MapAnswer, Says}
+use Rattle.siit_top.specs.Promises.{Promise}
+use Rattle.siit_top.specs.Ends.{unread_status}
+use Rattle.siit_top.specs.Runs.{run_of}
+use Rattle.siit_top.specs.Words.{map_address}
 use Rattle.siit_top.specs.declared.status.Status.{Status}
 use Rattle.siit_top.specs.declared.status.Status.TheVariants as status
 
--- where the bytes are told, they are the file's
-read_as : (s : Status) (told : Bool) (file : Option (List ℕ)) (device : ℕ) (address : Address) (old new : List ℕ) → IsReadAs told file device address old new s → IsTrue told → Says old new s (decision (held file) device address)
-read_as s told file device address old new r t =
-    subst (λ f. Says old new s (decision (held f) device address)) (sym (r.read t)) r.says
+map_not_read : {before after : FilesMeaning} {coming : ℕ → ℕ → ℕ} {configuration out : List ℕ} {device : ℕ} {address : Address} → Touches before after (configuration ∷ []) [] → ReadFailed before after configuration → Promise (map_address configuration device address) (run_of before after coming coming out out status.ReadFault)
+map_not_read only cause = record {
+  answer = tt;
+  read_fault = λ is. inl cause;
+  write_fault = λ is. cc;
+  only = only;
+  idents = λ device k. refl;
+  silent = λ other. refl;
+}
 
-is_long : (bytes : List ℕ) (device : ℕ) (address : Address) → 1048576 < length bytes → decision bytes device address ≡ too_long
-is_long bytes device address lt =
-    ap (λ b. if b then too_long else decision_by (config_of bytes) device address) (lt-ltb 1048576 (length bytes) lt)
+map_no_room : {before after : FilesMeaning} {coming : ℕ → ℕ → ℕ} {configuration out : List ℕ} {device : ℕ} {address : Address} → Touches before after (configuration ∷ []) [] → Promise (map_address configuration device address) (run_of before after coming coming out out status.NoMemory)
+map_no_room only = record {
+  answer = tt;
+  read_fault = λ is. cc;
+  write_fault = λ is. cc;
+  only = only;
+  idents = λ device k. refl;
+  silent = λ other. refl;
+}
 
-pub decided_by : (s : Status) (told : Bool) (file : Option (List ℕ)) (device : ℕ) (address : Address) (old new : List ℕ) → IsMapStatus s → OnWhole s (IsReadAs told file device address old new s) → ((word : ℕ) → s ≡ status.TooLong word → IsTrue told → 1048576 < length (held file)) → IsTrue told → OnDecided s (Says old new s (decision (held file) device address))
-decided_by status.Ok told file device address old new is r long t = read_as status.Ok told file device address old new r t
-decided_by status.BadWords told file device address old new is r long t = absurd is
-decided_by (status.BadConfig fault) told file device address old new is r long t = read_as (status.BadConfig fault) told file device address old new r t
-decided_by status.ReadFault told file device address old new is r long t = tt
-decided_by status.WriteFault told file device address old new is r long t = absurd is
-decided_by (status.BadCapture end place fault) told file device address old new is r long t = absurd is
-decided_by status.NoMemory told file device address old new is r long t = tt
-decided_by (status.TooLong word) told file device address old new is r long t = (is, is_long (held file) device address (long word refl t))
-decided_by status.NoDevice told file device address old new is r long t = read_as status.NoDevice told file device address old new r t
+map_too_long : {before after : FilesMeaning} {coming : ℕ → ℕ → ℕ} {configuration out : List ℕ} {device : ℕ} {address : Address} → Touches before after (configuration ∷ []) [] → IsLonger before configuration 1048576 → Promise (map_address configuration device address) (run_of before after coming coming out out (status.TooLong 1))
+map_too_long only long = record {
+  answer = record { word = refl; long = long };
+  read_fault = λ is. cc;
+  write_fault = λ is. cc;
+  only = only;
+  idents = λ device k. refl;
+  silent = λ other. refl;
+}
 
--- A status that no failed read explains is decided, or that of memory.
-pub complete_map : (s : Status) (P R : Type 0) → (s ≡ status.ReadFault → R) → OnDecided s P → (R → ⊥) → P ⊎ (s ≡ status.NoMemory)
-complete_map status.Ok P R fault p still = inl p
-complete_map status.BadWords P R fault p still = inl p
-complete_map (status.BadConfig f) P R fault p still = inl p
-complete_map status.ReadFault P R fault p still = absurd (still (fault refl))
-complete_map status.WriteFault P R fault p still = inl p
-complete_map (status.BadCapture end place f) P R fault p still = inl p
-complete_map status.NoMemory P R fault p still = inr refl
-complete_map (status.TooLong word) P R fault p still = inl p
-complete_map status.NoDevice P R fault p still = inl p
+unread_by : (u : Unread) (before after : FilesMeaning) (coming : ℕ → ℕ → ℕ) (configuration out : List ℕ) (device : ℕ) (address : Address) → Touches before after (configuration ∷ []) [] → IsUnread before after configuration 1048576 u → Promise (map_address configuration device address) (run_of before after coming coming out out (unread_status 1 u))
+unread_by unread.Failed before after coming configuration out device address only cause = map_not_read only cause
+unread_by unread.NoMemory before after coming configuration out device address only cause = map_no_room only
+unread_by unread.TooLong before after coming configuration out device address only cause = map_too_long only cause
+
+-- CONFIG wasn't read.
+pub map_unread : (u : Unread) {before after : FilesMeaning} {coming : ℕ → ℕ → ℕ} {configuration out : List ℕ} {device : ℕ} {address : Address} → Touches before after (configuration ∷ []) [] → IsUnread before after configuration 1048576 u → Promise (map_address configuration device address) (run_of before after coming coming out out (unread_status 1 u))
+map_unread u {before} {after} {coming} {configuration} {out} {device} {address} only cause = unread_by u before after coming configuration out device address only cause
+
+-- within the limit, what is read decides
+within_limit : (bytes : List ℕ) (device : ℕ) (address : Address) → length bytes ≤ 1048576 → decision bytes device address ≡ decision_by (config_of bytes) device address
+within_limit bytes device address within =
+    let short : nat_lt 1048576 (length bytes) ≡ false = grind (arith, nat_tests) in
+    ap (λ b. if b then too_long else decision_by (config_of bytes) device address) short
+
+not_long_at : (settings : Option Settings) (address : Address) → decision_at settings address ≢ too_long
+not_long_at None address = λ is. cc
+not_long_at (Some settings) address = λ is. cc
+
+not_long : (config : Result Chain Fault) (device : ℕ) (address : Address) → decision_by config device address ≢ too_long
+not_long (Err fault) device address = λ is. cc
+not_long (Ok chain) device address = not_long_at (device_at device chain.devices) address
+
+-- the status that the bytes decide
+decided_answer : (s : Status) (before after : FilesMeaning) (coming : ℕ → ℕ → ℕ) (configuration old new bytes : List ℕ) (device : ℕ) (address : Address) → WasRead before configuration 1048576 bytes → Says old new s (decision_by (config_of bytes) device address) → Says old new s (decision bytes device address) → MapAnswer configuration device address (run_of before after coming coming old new s) s
+decided_answer status.Ok before after coming configuration old new bytes device address read by says = record { bytes = bytes; read = read; says = says }
+decided_answer (status.BadConfig fault) before after coming configuration old new bytes device address read by says = record { bytes = bytes; read = read; says = says }
+decided_answer status.NoDevice before after coming configuration old new bytes device address read by says = record { bytes = bytes; read = read; says = says }
+decided_answer (status.TooLong word) before after coming configuration old new bytes device address read by says = absurd (not_long (config_of bytes) device address by.1)
+decided_answer status.NoMemory before after coming configuration old new bytes device address read by says = tt
+decided_answer status.ReadFault before after coming configuration old new bytes device address read by says = tt
+decided_answer (status.BadMessage word fault) before after coming configuration old new bytes device address read by says = absurd by
+decided_answer status.BadWords before after coming configuration old new bytes device address read by says = absurd by
+decided_answer status.WriteFault before after coming configuration old new bytes device address read by says = absurd by
+decided_answer (status.BadCapture end place fault) before after coming configuration old new bytes device address read by says = absurd by
+
+no_read_fault : (s : Status) (P : Type 0) (old new bytes : List ℕ) (device : ℕ) (address : Address) → Says old new s (decision_by (config_of bytes) device address) → s ≡ status.ReadFault → P
+no_read_fault s P old new bytes device address says is =
+    absurd (subst (λ (x : Status). Says old new x (decision_by (config_of bytes) device address)) is says)
+
+no_write_fault : (s : Status) (P : Type 0) (old new bytes : List ℕ) (device : ℕ) (address : Address) → Says old new s (decision_by (config_of bytes) device address) → s ≡ status.WriteFault → P
+no_write_fault s P old new bytes device address says is =
+    absurd (subst (λ (x : Status). Says old new x (decision_by (config_of bytes) device address)) is says)
+
+map_said : (s : Status) (before after : FilesMeaning) (coming : ℕ → ℕ → ℕ) (configuration old new bytes : List ℕ) (device : ℕ) (address : Address) → Touches before after (configuration ∷ []) [] → WasRead before configuration 1048576 bytes → Says old new s (decision_by (config_of bytes) device address) → (s ≢ status.Ok → new ≡ old) → Promise (map_address configuration device address) (run_of before after coming coming old new s)
+map_said s before after coming configuration old new bytes device address only read says silent = record {
+  answer = decided_answer s before after coming configuration old new bytes device address read says (rw (within_limit bytes device address read.within) says);
+  read_fault = no_read_fault s _ old new bytes device address says;
+  write_fault = no_write_fault s _ old new bytes device address says;
+  only = only;
+  idents = λ device k. refl;
+  silent = silent;
+}
+
+map_said_or : (s : Status) (before after : FilesMeaning) (coming : ℕ → ℕ → ℕ) (configuration old new bytes : List ℕ) (device : ℕ) (address : Address) → Touches before after (configuration ∷ []) [] → WasRead before configuration 1048576 bytes → Says old new s (decision_by (config_of bytes) device address) ⊎ (s ≡ status.NoMemory) → (s ≢ status.Ok → new ≡ old) → Promise (map_address configuration device address) (run_of before after coming coming old new s)
+map_said_or s before after coming configuration old new bytes device address only read (inl says) silent = map_said s before after coming configuration old new bytes device address only read says silent
+map_said_or s before after coming configuration old new bytes device address only read (inr none) silent =
+    let same : new ≡ old = silent (λ is. cc) in
+    rw (none, same) (map_no_room only)
+
+-- what was answered by the bytes that were read
+pub map_answered : {s : Status} {before after : FilesMeaning} {coming : ℕ → ℕ → ℕ} {configuration old new bytes given : List ℕ} {device : ℕ} {address : Address} → Touches before after (configuration ∷ []) [] → WasRead before configuration 1048576 bytes → given ≡ bytes → Says old new s (decision_by (config_of given) device address) ⊎ (s ≡ status.NoMemory) → (s ≢ status.Ok → new ≡ old) → Promise (map_address configuration device address) (run_of before after coming coming old new s)
+map_answered {s} {before} {after} {coming} {configuration} {old} {new} {bytes} {given} {device} {address} only read is says silent =
+    map_said_or s before after coming configuration old new bytes device address only read (rw is at says) silent

@@ -1,25 +1,29 @@
 -- A packet without the bytes of the link behind it, and its translated form.
-use Rattle.std.proofs.Common.{◌≡◌, ℕ, ◌+◌, ◌-◌, ◌≤◌, ◌<◌, List, length, take, drop, Bool, true, false, ◌&&◌, ◌||◌, ◌==◌, nat_le, if◌then◌else◌, Some, None, refl, ap, sym, ◌∙◌, arith, length-take, length-drop}
+use Rattle.std.proofs.Common.{◌≡◌, ℕ, ◌+◌, ◌-◌, ◌≤◌, ◌<◌, List, length, take, drop, Bool, true, false, ◌&&◌, ◌||◌, ◌==◌, nat_le, if◌then◌else◌, Some, None, refl, ap, sym, ◌∙◌, arith, length-append, length-take, length-drop}
 use Rattle.std.proofs.lemmas.Bool.Decides.{nat_tests}
 use Rattle.std.proofs.lemmas.List.{drop-take, take-take, get_or-take}
 use Rattle.siit_model.specs.Bytes.{part, field8, field16, field32}
+use Rattle.siit_model.specs.Fragments.{Fragment, fragment4}
 use Rattle.siit_model.specs.Ipv4.{Ipv4Packet, ipv4_of, ipv4_fields, header_length_in, total_length_in, is_short4, is_bad_header4, is_whole4, total_length4}
 use Rattle.siit_model.specs.Ipv6.{ipv6_bytes}
-use Rattle.siit_v4to6.specs.To6.{translated_to_6, ends_of}
-use Rattle.siit_v4to6.proofs.Good.{upper-length}
+use Rattle.siit_v4to6.specs.To6.{Head6, bytes_to_6, ends_to_6, fragment_part, translated_to_6}
+use Rattle.siit_v4to6.specs.Heads.{headed_packet6}
+use Rattle.siit_v4to6.specs.declared.fields.Head46.{Head46}
+use Rattle.siit_v4to6.proofs.Good.{to_6-length}
 use Rattle.siit_rules.specs.declared.rule.Rule.{Rule}
 use Rattle.siit_rules.specs.declared.rule.Rule.TheVariants.{Short4, BadHeader4}
 use Rattle.siit_views.specs.Headers.{HasLengths4, refusal4}
 use Rattle.std.specs.Bool.{OnFalse}
 use Rattle.siit_top.specs.Plain.{IsPlainPacket}
-use Rattle.siit_top.specs.Wkp.{image, is_plain, under_well_known, has_plain_upper}
+use Rattle.siit_top.specs.Wkp.{head_of, image, is_plain, under_well_known, has_plain_upper}
+use Rattle.siit_top.proofs.Translated.{translated, head_same, headed-length, no-part}
 
 -- the lengths of the parts behind the header's first 20 bytes
 pub options_length : (bytes : List ℕ) → HasLengths4 bytes → length (ipv4_fields bytes).options + 20 ≡ header_length_in bytes
 options_length bytes lengths =
     omega (arith, length-take (header_length_in bytes - 20) (drop 20 bytes), length-drop 20 bytes, lengths.header, lengths.total, lengths.fits)
 
-payload_length : (bytes : List ℕ) → HasLengths4 bytes → length (ipv4_fields bytes).payload + header_length_in bytes ≡ total_length_in bytes
+pub payload_length : (bytes : List ℕ) → HasLengths4 bytes → length (ipv4_fields bytes).payload + header_length_in bytes ≡ total_length_in bytes
 payload_length bytes lengths =
     omega (arith, length-take (total_length_in bytes - header_length_in bytes) (drop (header_length_in bytes) bytes), length-drop (header_length_in bytes) bytes, lengths.total, lengths.fits)
 
@@ -92,23 +96,34 @@ loaded bytes header cut total end plain header_is total_is end_is cut_is =
       short = tests.2;
     }
 
--- the translated packet is the image, by the fields of the packet that was loaded
-pub image_loaded : (bytes cut new : List ℕ) (source destination class : ℕ) → IsPlainPacket bytes → IsLoaded bytes cut
-    → new ≡ ipv6_bytes (translated_to_6 source destination class (ipv4_fields cut)) → source ≡ under_well_known (ipv4_fields bytes).source
-    → destination ≡ under_well_known (ipv4_fields bytes).destination → class ≡ (ipv4_fields bytes).tos → image bytes ≡ Some new
-image_loaded bytes cut new source destination class plain cut_is new_is source_is destination_is class_is =
-    let packet = ipv4_fields bytes in
-    let translated : Ipv4Packet → List ℕ = λ p. ipv6_bytes (translated_to_6 (under_well_known packet.source) (under_well_known packet.destination) packet.tos p) in
-    let image_is : image bytes ≡ Some (translated packet) = rw (plain.read, plain.plain) refl in
-    let same : new ≡ translated (ipv4_fields cut) = rw (← source_is, ← destination_is, ← class_is) new_is in
-    image_is ∙ ap Some (sym (same ∙ ap translated cut_is.fields))
+-- the bytes that lie free before the packet once it has its new header
+pub room_kept : (cut plain : List ℕ) (to : Head46) (front before : ℕ) → is_whole4 (ipv4_fields cut) ≡ true → to.fragment ≡ false
+    → plain ≡ ipv6_bytes (headed_packet6 to (ipv4_fields cut)) → before ≡ 256 → front + length plain ≡ before + length cut → 16 ≤ front
+room_kept cut plain to front before whole unasked plain_is before_is ends =
+    let header = header_length_in cut in
+    let total = total_length_in cut in
+    omega (arith, headed-length (ipv4_fields cut) to plain whole unasked plain_is, length-take (total - header) (drop header cut), length-drop header cut)
 
-pub length_loaded : (bytes cut new : List ℕ) (source destination class : ℕ) → IsLoaded bytes cut
-    → new ≡ ipv6_bytes (translated_to_6 source destination class (ipv4_fields cut)) → length new ≤ 1280
-length_loaded bytes cut new source destination class cut_is new_is =
+-- the translated packet is the image, by the fields of the packet that was loaded
+pub image_loaded : (bytes cut new : List ℕ) (head : Head6) → IsPlainPacket bytes → IsLoaded bytes cut
+    → new ≡ ipv6_bytes (translated head (ipv4_fields cut)) → head.source ≡ under_well_known (ipv4_fields bytes).source
+    → head.destination ≡ under_well_known (ipv4_fields bytes).destination → head.class ≡ (ipv4_fields bytes).tos → head.hop ≡ (ipv4_fields cut).ttl - 1
+    → image bytes ≡ Some new
+image_loaded bytes cut new head plain cut_is new_is source_is destination_is class_is hop_is =
+    let packet = ipv4_fields bytes in
+    let one_hop : head.hop ≡ packet.ttl - 1 = hop_is ∙ ap (λ p. p.ttl - 1) cut_is.fields in
+    let head_is : head ≡ head_of packet = head_same head _ _ _ _ source_is destination_is class_is one_hop in
+    let image_is : image bytes ≡ Some (ipv6_bytes (translated (head_of packet) packet)) = rw (plain.read, plain.plain) refl in
+    image_is ∙ ap Some (sym (new_is ∙ ap (λ p. ipv6_bytes (translated head p)) cut_is.fields ∙ ap (λ h. ipv6_bytes (translated h packet)) head_is))
+
+pub length_loaded : (bytes cut new : List ℕ) (head : Head6) → IsLoaded bytes cut
+    → new ≡ ipv6_bytes (translated head (ipv4_fields cut)) → length new ≤ 1280
+length_loaded bytes cut new head cut_is new_is =
     let packet = ipv4_fields cut in
-    let long = upper-length packet.protocol (ends_of source destination packet) (length packet.payload) packet.payload in
-    omega (arith, long, ap length new_is, ap (λ p. length p.payload) cut_is.fields, cut_is.short)
+    let f : Fragment = fragment4 packet in
+    let long = to_6-length (ends_to_6 head f.common) (length packet.payload) f in
+    let none = no-part head (length packet.payload) packet cut_is.whole in
+    omega (arith, long, ap length none, ap length new_is, ap (λ p. length p.payload) cut_is.fields, cut_is.short, length-append (fragment_part false (translated_to_6 head (length packet.payload) f)) (bytes_to_6 (ends_to_6 head f.common) (length packet.payload) f))
 
 ipv4_none : (s b : Bool) (first second rule : Rule) (packet : Ipv4Packet) → (if s then Some first else if b then Some second else None) ≡ Some rule → (if s || b then None else Some packet) ≡ None
 ipv4_none true b first second rule packet h = refl

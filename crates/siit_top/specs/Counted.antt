@@ -1,5 +1,5 @@
--- How many records were read, written and dropped, and how far a file was written.
-use Rattle.std.specs.Prelude.{◌≡◌, ◌⊎◌, ℕ, ◌+◌, ◌≤◌, List, length, take, Bool, not, if◌then◌else◌, count_by, Option, Some}
+-- How many records were read, written and dropped.
+use Rattle.std.specs.Prelude.{◌≡◌, ◌+◌, List, length, Bool, not, if◌then◌else◌, count_by}
 use Rattle.siit_top.specs.PlainCapture.{Captured}
 use Rattle.siit_top.specs.Wkp.{is_carried}
 use Rattle.siit_top.specs.declared.carry.Counts.{Counts}
@@ -20,7 +20,3 @@ counted counts carried = record {
   written = counts.written + (if carried then 1 else 0);
   drops = counts.drops + (if carried then 0 else 1);
 }
-
--- A file that was to hold a text is as it was, or holds a part of the text from its start.
-abbrev pub IsPartOf : Option (List ℕ) → Option (List ℕ) → List ℕ → Type 0
-IsPartOf old new text = (new ≡ old) ⊎ ((n : ℕ) × (n ≤ length text) × (new ≡ Some (take n text)))

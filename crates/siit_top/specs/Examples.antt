@@ -2,7 +2,8 @@
 use Rattle.std.specs.Prelude.{◌≡◌, ℕ, List, [], ◌∷◌, ◌++◌, take, Some, None, option_map, codes}
 use Rattle.siit_top.specs.PlainCapture.{records_of}
 use Rattle.siit_top.specs.Wkp.{wkp_capture, wkp_line}
-use Rattle.siit_top.specs.Words.{command_of, four, map_address, six, wkp}
+use Rattle.siit_command.specs.Words.{four, six}
+use Rattle.siit_top.specs.Words.{command_of, map_address, wkp}
 
 abbrev segment : List ℕ
 segment = 0xc0 ∷ 0x00 ∷ 0x00 ∷ 0x50 ∷ 0x00 ∷ 0x00 ∷ 0x00 ∷ 0x01 ∷ 0x00 ∷ 0x00 ∷ 0x00 ∷ 0x00 ∷ 0x50 ∷ 0x02 ∷ 0x20 ∷ 0x00 ∷ 0xbd ∷ 0x7f ∷ 0x00 ∷ 0x00 ∷ []

@@ -7,7 +7,7 @@ use Rattle.siit_map.specs.declared.mapping.Means.{Means}
 use Rattle.siit_map.specs.declared.mapping.Means.TheVariants.{Eam, Prefix, Local}
 use Rattle.siit_map.specs.declared.mapping.MapRefusal.{MapRefusal}
 use Rattle.siit_map.specs.declared.mapping.MapRefusal.TheVariants.{NoMapping, WkpNonGlobal, LocalMismatch}
-use Rattle.siit_top.specs.Words.{Address, four, six}
+use Rattle.siit_command.specs.Words.{Address, four, six}
 
 -- how an address is mapped, entries being counted from 1
 abbrev pub means_text : Means → List ℕ

@@ -15,14 +15,16 @@ pub record Captured : Type 0 where
   pub microseconds : ℕ
   pub bytes : List ℕ
 
--- A head of 24 bytes: the magic of microseconds, version 2.4, eight bytes and the snapshot length, which aren't read, and link type 101.
+-- A head of 24 bytes: the magic of microseconds, version 2.4, eight bytes and the snapshot length, which aren't read,
+-- and link type 101.
 abbrev pub is_plain_head : List ℕ → Bool
 is_plain_head bytes =
     nat_le 24 (length bytes)
     && bytes_eq (take 8 bytes) (0xd4 ∷ 0xc3 ∷ 0xb2 ∷ 0xa1 ∷ 0x02 ∷ 0x00 ∷ 0x04 ∷ 0x00 ∷ [])
     && (little32 bytes 20 == 101)
 
--- A whole record at the front: seconds, microseconds, captured and original length, then the captured bytes, at most 262,144 of them.
+-- A whole record at the front: seconds, microseconds, captured and original length, then the captured bytes, at most
+-- 262,144 of them.
 abbrev pub starts_with_record : List ℕ → Bool
 starts_with_record rest =
     nat_le 16 (length rest)

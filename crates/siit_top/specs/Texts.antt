@@ -6,9 +6,11 @@ use Rattle.siit_top.specs.declared.status.End.TheVariants.{Left, Right}
 use Rattle.siit_top.specs.declared.status.CaptureFault.{CaptureFault}
 use Rattle.siit_top.specs.declared.status.CaptureFault.TheVariants.{NotBuilt}
 use Rattle.siit_top.specs.declared.status.Status.{Status}
-use Rattle.siit_top.specs.declared.status.Status.TheVariants.{Ok, BadWords, BadConfig, ReadFault, WriteFault, BadCapture, NoMemory, TooLong, NoDevice}
+use Rattle.siit_top.specs.declared.status.Status.TheVariants.{Ok, BadWords, BadConfig, ReadFault, WriteFault, BadCapture, BadMessage, NoMemory, TooLong, NoDevice}
 use Rattle.siit_config.specs.declared.fault.ConfigFault.{ConfigFault}
-use Rattle.siit_top.specs.ConfigTexts.{config_text}
+use Rattle.siit_command.specs.ConfigTexts.{config_text}
+use Rattle.siit_dns.specs.declared.fault.DnsFault.{DnsFault}
+use Rattle.siit_dns.specs.declared.fault.DnsFault.TheVariants as dns
 
 abbrev pub end_name : End → List ℕ
 end_name Left = codes "left"
@@ -26,6 +28,7 @@ status_code WriteFault = 5
 status_code (BadCapture end place fault) = 6
 status_code NoMemory = 7
 status_code (TooLong word) = 8
+status_code (BadMessage word fault) = 9
 status_code NoDevice = 10
 
 abbrev pub bad_capture_text : End → (place : ℕ) → CaptureFault → List ℕ
@@ -38,6 +41,18 @@ too_long_text word = codes "siit: too long: word " ++ decimal word ++ 10 ∷ []
 abbrev pub bad_config_text : ConfigFault → List ℕ
 bad_config_text fault = codes "siit: bad config: " ++ config_text fault ++ 10 ∷ []
 
+-- what is wrong with a DNS message; want of memory is no fault of one, and has no text
+abbrev pub message_fault_text : DnsFault → List ℕ
+message_fault_text (dns.Bad place) = codes "at " ++ decimal place
+message_fault_text dns.NotQuery = codes "not query"
+message_fault_text dns.NotAnswer = codes "not answer"
+message_fault_text dns.AnswerTooLong = codes "answer too long"
+message_fault_text dns.NoMemory = []
+
+abbrev pub bad_message_text : (word : ℕ) → DnsFault → List ℕ
+bad_message_text word fault =
+    codes "siit: bad message: word " ++ decimal word ++ codes ": " ++ message_fault_text fault ++ 10 ∷ []
+
 -- the line of a status, and no bytes for Ok
 abbrev pub status_text : Status → List ℕ
 status_text Ok = []
@@ -48,4 +63,5 @@ status_text WriteFault = codes "siit: write fault\n"
 status_text (BadCapture end place fault) = bad_capture_text end place fault
 status_text NoMemory = codes "siit: no memory\n"
 status_text (TooLong word) = too_long_text word
+status_text (BadMessage word fault) = bad_message_text word fault
 status_text NoDevice = codes "siit: no device\n"

@@ -1,13 +1,14 @@
 -- What `wkp IN OUT` writes: each plain packet of IN, translated under the well-known prefix.
-use Rattle.std.specs.Prelude.{ℕ, ◌*◌, List, [], ◌∷◌, ◌++◌, length, Bool, not, ◌&&◌, ◌||◌, ◌==◌, nat_lt, nat_le, if◌then◌else◌, Option, Some, None, is_some, option_and_then, count_by, codes}
+use Rattle.std.specs.Prelude.{ℕ, ◌-◌, ◌*◌, List, [], ◌∷◌, ◌++◌, length, Bool, false, not, ◌&&◌, ◌||◌, ◌==◌, nat_lt, nat_le, if◌then◌else◌, Option, Some, None, is_some, option_and_then, count_by, codes}
 use Rattle.std.specs.List.{flat_map}
 use Rattle.std.specs.Option.{option_map_or}
 use Rattle.std.specs.Fmt.{decimal}
 use Rattle.siit_addr.specs.Addresses.{is_non_global_number}
 use Rattle.siit_model.specs.Bytes.{field16}
+use Rattle.siit_model.specs.Fragments.{fragment4}
 use Rattle.siit_model.specs.Ipv4.{Ipv4Packet, ipv4_of, is_whole4, total_length4}
 use Rattle.siit_model.specs.Ipv6.{ipv6_bytes}
-use Rattle.siit_v4to6.specs.To6.{translated_to_6}
+use Rattle.siit_v4to6.specs.To6.{Head6, packet6, translated_to_6}
 use Rattle.siit_rfc6052.specs.Embedding.{embedded, well_known}
 use Rattle.siit_top.specs.PlainCapture.{Captured}
 use Rattle.siit_top.specs.WrittenCapture.{output_head, output_record}
@@ -35,12 +36,21 @@ is_plain packet =
 abbrev pub under_well_known : ℕ → ℕ
 under_well_known address = embedded 96 well_known address
 
+-- the header of the translated packet, one hop on
+abbrev pub head_of : Ipv4Packet → Head6
+head_of packet = record {
+  source = under_well_known packet.source;
+  destination = under_well_known packet.destination;
+  class = packet.tos;
+  hop = packet.ttl - 1;
+}
+
 -- the translated packet of some bytes, or none where they are no plain packet
 abbrev pub image : List ℕ → Option (List ℕ)
 image bytes =
     option_and_then
     (λ packet. if is_plain packet
-    then Some (ipv6_bytes (translated_to_6 (under_well_known packet.source) (under_well_known packet.destination) packet.tos packet))
+    then Some (ipv6_bytes (packet6 false (translated_to_6 (head_of packet) (length packet.payload) (fragment4 packet))))
     else None)
     (ipv4_of bytes)
 

@@ -1,37 +1,65 @@
 -- The command that the words after the program's name are.
-use Rattle.std.specs.Prelude.{ℕ, ◌-◌, ◌^◌, List, [], ◌∷◌, length, codes, Bool, not, ◌&&◌, nat_le, if◌then◌else◌, Option, Some, None, option_map}
+use Rattle.std.specs.Prelude.{ℕ, List, [], ◌∷◌, codes, if◌then◌else◌, Option, Some, None, option_map}
 use Rattle.std.specs.Str.{bytes_eq}
-use Rattle.siit_addr.specs.Texts.{at_most, both_with, decimal_digit_of, has_leading_zero, ipv4_of_text, ipv6_of_text, number_in, or_else}
+use Rattle.siit_addr.specs.Texts.{both_with}
+use Rattle.siit_addr.specs.declared.addr.Prefix6.{Prefix6}
+use Rattle.siit_config.specs.Texts.{embedding_of}
+use Rattle.siit_command.specs.Words.{Address, address_of_text, is_output, number_of_text}
 
--- an address of either family
-pub data Address : Type 0 where
-  four : ℕ → Address
-  six : ℕ → Address
+-- of a DNS query, the response for AAAA records, and the one for A records where it is given: the names of their files,
+-- or their bytes
+pub record Messages : Type 0 where
+  pub query : List ℕ
+  pub aaaa : List ℕ
+  pub a : Option (List ℕ)
+
+abbrev pub messages_of : (query aaaa : List ℕ) (a : Option (List ℕ)) → Messages
+messages_of query aaaa a = record { query = query; aaaa = aaaa; a = a }
 
 pub data Command : Type 0 where
   -- translate the capture IN under the well-known prefix to OUT
   wkp : (input output : List ℕ) → Command
   -- map an address at a device of the configuration CONFIG, the first device being 1
   map_address : (configuration : List ℕ) (device : ℕ) (address : Address) → Command
+  -- find the prefixes that the DNS answer ANSWER shows
+  discover : (answer : List ℕ) → Command
+  -- answer a DNS query for AAAA records from the responses, under a prefix, to OUT
+  synthesis : (prefix : Prefix6) (names : Messages) (output : List ℕ) → Command
 
--- a name that an output may have beside the name of an input
-abbrev pub is_output : List ℕ → List ℕ → Bool
-is_output output input = not (bytes_eq output (codes "-")) && not (bytes_eq output input)
+-- IN OUT
+abbrev pub wkp_of : List (List ℕ) → Option Command
+wkp_of (input ∷ output ∷ []) = if is_output output (input ∷ []) then Some (wkp input output) else None
+wkp_of words = None
 
--- a number below 2^64 in decimal digits, without sign or leading zeros
-abbrev pub number_of_text : List ℕ → Option ℕ
-number_of_text text =
-    if nat_le 1 (length text) && not (has_leading_zero text) then at_most (2 ^ 64 - 1) (number_in 10 decimal_digit_of text)
+-- CONFIG DEVICE ADDRESS
+abbrev pub map_of : List (List ℕ) → Option Command
+map_of (configuration ∷ device ∷ address ∷ []) =
+    both_with (map_address configuration) (number_of_text device) (address_of_text address)
+map_of words = None
+
+-- ANSWER
+abbrev pub discover_of : List (List ℕ) → Option Command
+discover_of (answer ∷ []) = Some (discover answer)
+discover_of words = None
+
+-- the name of a file, which isn't given where it is `-`
+abbrev pub given_name : List ℕ → Option (List ℕ)
+given_name word = if bytes_eq word (codes "-") then None else Some word
+
+-- PREFIX QUERY AAAA A OUT
+abbrev pub dns64_of : List (List ℕ) → Option Command
+dns64_of (prefix ∷ query ∷ aaaa ∷ a ∷ output ∷ []) =
+    if is_output output (query ∷ aaaa ∷ a ∷ [])
+    then option_map (λ p. synthesis p (messages_of query aaaa (given_name a)) output) (embedding_of prefix)
     else None
+dns64_of words = None
 
-abbrev pub address_of_text : List ℕ → Option Address
-address_of_text text = or_else (option_map four (ipv4_of_text text)) (option_map six (ipv6_of_text text))
-
+-- the name of a command, and its words
 abbrev pub command_of : List (List ℕ) → Option Command
-command_of (verb ∷ input ∷ output ∷ []) =
-    if bytes_eq verb (codes "wkp") && is_output output input then Some (wkp input output) else None
-command_of (verb ∷ configuration ∷ device ∷ address ∷ []) =
-    if bytes_eq verb (codes "map")
-    then both_with (map_address configuration) (number_of_text device) (address_of_text address)
+command_of [] = None
+command_of (name ∷ words) =
+    if bytes_eq name (codes "wkp") then wkp_of words
+    else if bytes_eq name (codes "map") then map_of words
+    else if bytes_eq name (codes "discover") then discover_of words
+    else if bytes_eq name (codes "dns64") then dns64_of words
     else None
-command_of words = None

@@ -1,4 +1,4 @@
-// The plain capture: its head, and the record at the front of its bytes.
+//! The plain capture: its head, and the record at the front of its bytes.
 ghost use Rattle.std.specs.Prelude.{◌≡◌, ◌+◌, ◌≤◌, length, MatchOption, is_some, false};
 ghost use Rattle.siit_top.specs.PlainCapture.{is_plain_head, little32, records_of, starts_with_record};
 ghost use Rattle.siit_top.specs.Turns.{is_plain_from, IsFirstRecord};

@@ -1,12 +1,11 @@
-// The records of a capture, carried to the output.
-ghost use Rattle.std.specs.Prelude.{◌≡◌, ◌≤◌, ◌<◌, ◌+◌, ◌^◌, ◌++◌, [], length, true, is_some, IfOk, IsTrue, OnOk, OnErr, Some};
+//! The records of a capture, carried to the output.
+ghost use Rattle.std.specs.Prelude.{◌≡◌, ◌≤◌, ◌<◌, ◌+◌, ◌^◌, ◌++◌, [], length, true, is_some, IfOk, OnOk, OnErr};
 ghost use Rattle.std.specs.Bool.{OnFalse, OnTrue};
 ghost use Rattle.std.specs.List.{flat_map};
-ghost use Rattle.siit_word.specs.Causes.{NeverFalls, Rose};
-ghost use Rattle.siit_word.specs.Files.{GrowsBy, GrowsByPrefix, Stays, StaysBut};
+ghost use Rattle.siit_word.specs.Files.{Appended, AppendedPart, WriteFailed, Written, WrittenPart};
 ghost use Rattle.siit_top.specs.PlainCapture.{records_of};
 ghost use Rattle.siit_top.specs.Turns.{captured, is_plain_from, records_in, records_read};
-ghost use Rattle.siit_top.specs.Counted.{IsCount, IsPartOf};
+ghost use Rattle.siit_top.specs.Counted.{IsCount};
 ghost use Rattle.siit_top.specs.Wkp.{is_carried, wkp_capture, written};
 ghost use Rattle.siit_top.specs.WrittenCapture.{little_bytes32};
 
@@ -16,8 +15,8 @@ use byteorder::{ByteOrder, LittleEndian};
 use siit_views::{PacketBuf, replace_front};
 use siit_word::{Failed, Files, append_all};
 
-/// The head of the output: the magic number of nanoseconds, version 2.4, eight zero bytes, snapshot length 262,144 and the link
-/// type of raw IP packets, lowest bytes first.
+/// The head of the output: the magic number of nanoseconds, version 2.4, eight zero bytes, snapshot length 262,144 and
+/// the link type of raw IP packets, lowest bytes first.
 const OUTPUT_HEAD: [u8; 24] = [
     0x4d, 0x3c, 0xb2, 0xa1, 2, 0, 4, 0, 0, 0, 0, 0, 0, 0, 0, 0, 0, 0, 4, 0, 101, 0, 0, 0,
 ];
@@ -68,16 +67,11 @@ fn carry_record<F: Files>(
 ) -> Result<bool, Failed>
     requires { found.now.microseconds < 1000000 }
     ensures carried { IfOk result (λ carried. carried ≡ is_carried (captured found.now)) }
-    ensures ok { OnOk result (IsTrue (F.is_told files.old output.now)
-        → GrowsBy (F.contents files.old output.now) (F.contents files.new output.now) (written (captured found.now))) }
-    ensures err { OnErr result (IsTrue (F.is_told files.old output.now)
-        → GrowsByPrefix (F.contents files.old output.now) (F.contents files.new output.now) (written (captured found.now))) }
-    ensures others { StaysBut output.now (F.contents files.old) (F.contents files.new) }
-    ensures given { Stays (F.given files.old) (F.given files.new) }
-    ensures told { Stays (F.is_told files.old) (F.is_told files.new) }
-    ensures cause { OnErr result (Rose (F.write_faults files.old output.now) (F.write_faults files.new output.now)) }
-    ensures reads { NeverFalls (F.read_faults files.old) (F.read_faults files.new) }
-    ensures writes { NeverFalls (F.write_faults files.old) (F.write_faults files.new) }
+    ensures ok { OnOk result (Appended (F.meaning files.old) (F.meaning files.new) output.now
+        (written (captured found.now))) }
+    ensures err { OnErr result (AppendedPart (F.meaning files.old) (F.meaning files.new) output.now
+        (written (captured found.now))) }
+    ensures cause { OnErr result (WriteFailed (F.meaning files.old) (F.meaning files.new) output.now) }
 {
     if !load_written(buf, found) {
         return Ok(false);
@@ -96,16 +90,11 @@ fn carry_records<F: Files>(
     requires plain { is_plain_from records.now ≡ true }
     requires within { length records.now ≤ 4294967296 }
     ensures counts { IfOk result (λ counts. IsCount counts (records_in records.now)) }
-    ensures ok { OnOk result (IsTrue (F.is_told files.old output.now)
-        → GrowsBy (F.contents files.old output.now) (F.contents files.new output.now) (flat_map written (records_in records.now))) }
-    ensures err { OnErr result (IsTrue (F.is_told files.old output.now)
-        → GrowsByPrefix (F.contents files.old output.now) (F.contents files.new output.now) (flat_map written (records_in records.now))) }
-    ensures others { StaysBut output.now (F.contents files.old) (F.contents files.new) }
-    ensures given { Stays (F.given files.old) (F.given files.new) }
-    ensures told { Stays (F.is_told files.old) (F.is_told files.new) }
-    ensures cause { OnErr result (Rose (F.write_faults files.old output.now) (F.write_faults files.new output.now)) }
-    ensures reads { NeverFalls (F.read_faults files.old) (F.read_faults files.new) }
-    ensures writes { NeverFalls (F.write_faults files.old) (F.write_faults files.new) }
+    ensures ok { OnOk result (Appended (F.meaning files.old) (F.meaning files.new) output.now
+        (flat_map written (records_in records.now))) }
+    ensures err { OnErr result (AppendedPart (F.meaning files.old) (F.meaning files.new) output.now
+        (flat_map written (records_in records.now))) }
+    ensures cause { OnErr result (WriteFailed (F.meaning files.old) (F.meaning files.new) output.now) }
 {
     let mut counts = Counts {
         read: 0,
@@ -149,16 +138,11 @@ pub(crate) fn write_capture<F: Files>(
     requires plain { is_some (records_of capture.now) ≡ true }
     requires within { length capture.now ≤ 4294967296 }
     ensures counts { IfOk result (λ counts. IsCount counts (records_read capture.now)) }
-    ensures ok { OnOk result (IsTrue (F.is_told files.old output.now)
-        → F.contents files.new output.now ≡ Some (wkp_capture (records_read capture.now))) }
-    ensures err { OnErr result (IsTrue (F.is_told files.old output.now)
-        → IsPartOf (F.contents files.old output.now) (F.contents files.new output.now) (wkp_capture (records_read capture.now))) }
-    ensures others { StaysBut output.now (F.contents files.old) (F.contents files.new) }
-    ensures given { Stays (F.given files.old) (F.given files.new) }
-    ensures told { Stays (F.is_told files.old) (F.is_told files.new) }
-    ensures cause { OnErr result (Rose (F.write_faults files.old output.now) (F.write_faults files.new output.now)) }
-    ensures reads { NeverFalls (F.read_faults files.old) (F.read_faults files.new) }
-    ensures writes { NeverFalls (F.write_faults files.old) (F.write_faults files.new) }
+    ensures ok { OnOk result (Written (F.meaning files.old) (F.meaning files.new) output.now
+        (wkp_capture (records_read capture.now))) }
+    ensures err { OnErr result (WrittenPart (F.meaning files.old) (F.meaning files.new) output.now
+        (wkp_capture (records_read capture.now))) }
+    ensures cause { OnErr result (WriteFailed (F.meaning files.old) (F.meaning files.new) output.now) }
 {
     files.create(output)?;
     append_all(files, output, &OUTPUT_HEAD)?;

@@ -3,16 +3,15 @@
 
 mod capture;
 mod carry;
-mod config_lines;
+mod commands;
 mod lines;
-mod map;
+mod map_lines;
 mod packet;
-mod reading;
+mod prefix_lines;
 mod status;
 mod top;
-mod wkp;
-mod words;
 
+ghost use Rattle.siit_top.specs.DiscoverExamples.{DiscoverExamples};
 ghost use Rattle.siit_top.specs.Examples.{CaptureExamples, MapWordExamples, WordExamples};
 ghost use Rattle.siit_top.specs.MapExamples.{MapExamples};
 
@@ -38,4 +37,9 @@ pub fn map_word_examples()
 /// Lines that `map` prints.
 pub fn map_examples()
     ensures { MapExamples }
+{}
+
+/// Words that are the command `discover`, words that are none, and lines that it prints.
+pub fn discover_examples()
+    ensures { DiscoverExamples }
 {}

@@ -1,12 +1,13 @@
-// The lines that the program prints.
+//! The lines that the program prints.
 ghost use Rattle.std.specs.Prelude.{◌≡◌, ◌++◌, IfOk, OnOk, codes, string_bytes};
 ghost use Rattle.std.specs.Fmt.{decimal};
 ghost use Rattle.siit_top.specs.Wkp.{end_line};
-ghost use Rattle.siit_top.specs.Texts.{bad_capture_text, bad_config_text, status_text, too_long_text};
+ghost use Rattle.siit_top.specs.Texts.{bad_capture_text, bad_config_text, bad_message_text, message_fault_text, status_text, too_long_text};
 
-use crate::config_lines::config_text;
 use crate::status::{CaptureFault, End, Status};
+use siit_command::config_text;
 use siit_config::ConfigFault;
+use siit_dns::DnsFault;
 use siit_word::NoMemory;
 use std::alloc::{AllocError, Global};
 
@@ -32,6 +33,7 @@ fn line_of(alloc: Global, status: &Status) -> Result<String, AllocError>
         Status::BadCapture { end, place, fault } => bad_capture_line(alloc, end, place, fault),
         Status::NoMemory => String::from_str(alloc, "siit: no memory\n"),
         Status::TooLong { word } => too_long_line(alloc, word),
+        Status::BadMessage { word, fault } => bad_message_line(alloc, word, fault),
         Status::NoDevice => String::from_str(alloc, "siit: no device\n"),
     }
 }
@@ -67,6 +69,30 @@ fn too_long_line(alloc: Global, word: u8) -> Result<String, AllocError>
     ensures { IfOk result (λ line. string_bytes line ≡ too_long_text word) }
 {
     format!(in alloc; "siit: too long: word {word}\n")
+}
+
+#[tactic(auto, using(std::proofs::Common::append_assoc))]
+fn bad_message_line(alloc: Global, word: u8, fault: DnsFault) -> Result<String, AllocError>
+    ensures { IfOk result (λ line. string_bytes line ≡ bad_message_text word fault) }
+{
+    let text = message_fault_text(alloc, fault)?;
+    let mut line = format!(in alloc; "siit: bad message: word {word}: ")?;
+    line.push_str(text.as_str())?;
+    line.push('\n')?;
+    Ok(line)
+}
+
+// What is wrong with a DNS message, as it is printed.
+fn message_fault_text(alloc: Global, fault: DnsFault) -> Result<String, AllocError>
+    ensures { IfOk result (λ text. string_bytes text ≡ message_fault_text fault) }
+{
+    match fault {
+        DnsFault::Bad(place) => format!(in alloc; "at {place}"),
+        DnsFault::NotQuery => String::from_str(alloc, "not query"),
+        DnsFault::NotAnswer => String::from_str(alloc, "not answer"),
+        DnsFault::AnswerTooLong => String::from_str(alloc, "answer too long"),
+        DnsFault::NoMemory => Ok(String::new(alloc)),
+    }
 }
 
 /// The line at the end of a run: records read from the left and from the right, packets written to the left and to the

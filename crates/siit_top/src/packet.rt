@@ -1,4 +1,4 @@
-// One captured packet on its way to IPv6 (RFC 7915 section 4.1).
+//! One captured packet on its way to IPv6 (RFC 7915 section 4.1).
 ghost use Rattle.std.specs.Prelude.{◌≡◌, ◌≤◌, length, Some, None};
 ghost use Rattle.std.specs.Bool.{OnFalse, OnTrue};
 ghost use Rattle.siit_model.specs.Ipv4.{ipv4_fields};
@@ -6,9 +6,9 @@ ghost use Rattle.siit_views.specs.Headers.{HasLengths4};
 ghost use Rattle.siit_top.specs.Plain.{IsPlainPacket};
 ghost use Rattle.siit_top.specs.Wkp.{has_plain_header, has_plain_upper, image, is_plain, under_well_known};
 
-use siit_addr::{Addr4, Addr6, is_non_global};
+use siit_addr::{Addr4, Addr6, Addresses4, Addresses6, is_non_global};
 use siit_rfc6052::Embed;
-use siit_v4to6::{Head46, translate46};
+use siit_v4to6::{Head46, head46, upper46_behind};
 use siit_views::{Ipv4Header, PacketBuf, read4};
 use siit_word::get16;
 
@@ -17,6 +17,9 @@ const TCP: u8 = 6;
 
 /// UDP (RFC 768).
 const UDP: u8 = 17;
+
+/// The length of an IPv6 header in bytes (RFC 8200 section 3).
+const IPV6_HEADER: usize = 40;
 
 /// The address under the well-known prefix (RFC 6052 section 2.1).
 fn under_well_known(a: Addr4) -> Addr6
@@ -81,12 +84,30 @@ pub(crate) fn translate(buf: &mut PacketBuf, packet: &[u8])
     ensures short { length buf.new.bytes ≤ 1280 }
 {
     let header = Ipv4Header::new(packet);
+    let old = Addresses4 {
+        src: header.src(),
+        dst: header.dst(),
+    };
+    let new = Addresses6 {
+        src: under_well_known(old.src),
+        dst: under_well_known(old.dst),
+    };
     let to = Head46 {
-        src: under_well_known(header.src()),
-        dst: under_well_known(header.dst()),
+        src: new.src,
+        dst: new.dst,
         class: header.tos(),
         fragment: false,
     };
+    let protocol = header.protocol();
+    let payload_len = header.total() - header.header_len() as u16;
     buf.load(&packet[..usize::from(header.total())]);
-    translate46(buf, &to);
+    head46(buf, &to);
+    upper46_behind(
+        buf.bytes_mut(),
+        IPV6_HEADER,
+        protocol,
+        old,
+        new,
+        payload_len,
+    );
 }

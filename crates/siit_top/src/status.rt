@@ -1,6 +1,8 @@
+//! How a run of the program ended, as its caller sees it.
 ghost use Rattle.std.specs.Prelude.{◌≡◌};
 
 use siit_config::ConfigFault;
+use siit_dns::DnsFault;
 
 /// One end of a chain of translators.
 #[derive(Clone, Copy, Debug, PartialEq, Eq)]
@@ -42,6 +44,11 @@ pub enum Status {
     /// The file that the word at this place names, the first being 0, holds more bytes than are read.
     TooLong {
         word: u8,
+    },
+    /// The DNS message in the file that the word at this place names has this fault, which is never `NoMemory`.
+    BadMessage {
+        word: u8,
+        fault: DnsFault,
     },
     /// The configuration has no device of this number.
     NoDevice,
@@ -90,6 +97,7 @@ impl Status {
             Status::BadCapture { .. } => 6,
             Status::NoMemory => 7,
             Status::TooLong { .. } => 8,
+            Status::BadMessage { .. } => 9,
             Status::NoDevice => 10,
         }
     }

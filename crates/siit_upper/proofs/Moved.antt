@@ -3,7 +3,7 @@ use Rattle.std.proofs.Common.{◌≡◌, ℕ, ◌<◌, List, length, slice_set, 
 use Rattle.std.proofs.lemmas.Bool.{ltb-true}
 use Rattle.siit_model.specs.Bytes.{AreBytes, field16}
 use Rattle.siit_model.specs.Upper.{has_field16}
-use Rattle.siit_upper.specs.Moves.{echo_moved, tcp_moved, udp_moved}
+use Rattle.siit_upper.specs.Moves.{echo_moved, icmp_moved, tcp_moved, udp_moved}
 use Rattle.siit_checksum.proofs.Fields.{bytes-with_field16, bytes-set_first, bytes-if, length-with_field16, length-set_first, length-if}
 
 pub bytes-tcp_moved : (old new : ℕ) (part : List ℕ) → AreBytes part → AreBytes (tcp_moved old new part)
@@ -35,3 +35,10 @@ length-echo_moved kind old new part =
     let same : length (slice_set part 0 kind) ≡ length part = length-set_first part kind in
     length-if (has_field16 part 2) _ (slice_set part 0 kind) (length part)
     (λ (has : has_field16 part 2 ≡ true). length-with_field16 (slice_set part 0 kind) 2 _ (subst (λ n. 3 < n) (sym same) (ltb-true 3 (length part) has)) ∙ same) same
+
+pub bytes-icmp_moved : (old new : ℕ) (part : List ℕ) → AreBytes part → AreBytes (icmp_moved old new part)
+bytes-icmp_moved old new part small = bytes-if (has_field16 part 2) _ part (bytes-with_field16 part 2 _ small) small
+
+pub length-icmp_moved : (old new : ℕ) (part : List ℕ) → length (icmp_moved old new part) ≡ length part
+length-icmp_moved old new part =
+    length-if (has_field16 part 2) _ part (length part) (λ (has : has_field16 part 2 ≡ true). length-with_field16 part 2 _ (ltb-true 3 (length part) has)) refl

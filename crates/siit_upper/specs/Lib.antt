@@ -1,3 +1,4 @@
 pub mod Moves
 pub mod Parts
 pub mod Walks
+pub mod Laws

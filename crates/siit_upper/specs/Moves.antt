@@ -1,4 +1,5 @@
--- Transport checksums that move from a pseudo-header of residue `old` to one of residue `new` (RFC 1624), in a part that may be cut.
+-- Transport checksums that move from a pseudo-header of residue `old` to one of residue `new` (RFC 1624), in a part
+-- that may be cut.
 use Rattle.std.specs.Prelude.{ℕ, List, slice_set, ◌&&◌, nat_lt, if◌then◌else◌}
 use Rattle.siit_model.specs.Bytes.{field16, with_field16}
 use Rattle.siit_model.specs.Checksum.{moved, moved_udp}
@@ -13,9 +14,13 @@ abbrev pub udp_moved : (old new : ℕ) → List ℕ → List ℕ
 udp_moved old new part =
     if has_field16 part 6 && nat_lt 0 (field16 part 6) then with_field16 part 6 (moved_udp (field16 part 6) old new) else part
 
--- ICMP echo, whose checksum stands at 2: it gets the type `kind`, and the checksum moves by that and by the pseudo-header, which has residue 0
--- where there is none.
+-- ICMP echo, whose checksum stands at 2: it gets the type `kind`, and the checksum moves by that and by the
+-- pseudo-header, which has residue 0 where there is none.
 abbrev pub echo_moved : (kind old new : ℕ) → List ℕ → List ℕ
 echo_moved kind old new part =
     let turned = slice_set part 0 kind in
     if has_field16 part 2 then with_field16 turned 2 (moved (moved (field16 part 2) (field16 part 0) (field16 turned 0)) old new) else turned
+
+-- an ICMPv6 message whose type stays: its checksum, which stands at 2, moves likewise
+abbrev pub icmp_moved : (old new : ℕ) → List ℕ → List ℕ
+icmp_moved old new part = if has_field16 part 2 then with_field16 part 2 (moved (field16 part 2) old new) else part

@@ -1,4 +1,4 @@
--- What an upper part ends as that was lent as its header and the rest.
+-- What an upper part ends as that was lent as its first bytes and the rest.
 use Rattle.std.specs.Prelude.{ℕ, List, ◌++◌, Option, Some, None}
 use Rattle.std.specs.Borrow.{follows_both_if, MutBor, Fml, GName, Array, u8}
 use mathlib.Core.Option as maybe

@@ -1,4 +1,5 @@
--- The walk over the extension headers (RFC 8200 section 4), with the rule by which a packet is dropped for each trouble.
+-- The walk over the extension headers (RFC 8200 section 4), with the rule by which a packet is dropped for each
+-- trouble.
 use Rattle.std.specs.Prelude.{Option, Some, None, Result, Ok, Err}
 use Rattle.siit_model.specs.Extensions.{FragmentFields, Trouble, runs_short, out_of_order, behind_fragment, Walked}
 use Rattle.siit_rules.specs.declared.rule.Rule.{Rule}

@@ -1,4 +1,4 @@
-//! The protocols of upper parts, by the number that an IP header has for them.
+//! The protocols of upper parts and the Fragment header, by the number that an IP header has for them.
 
 /// ICMP in IPv4 (RFC 792).
 pub const ICMP: u8 = 1;
@@ -11,3 +11,6 @@ pub const UDP: u8 = 17;
 
 /// ICMPv6 (RFC 4443).
 pub const ICMPV6: u8 = 58;
+
+/// The Fragment header of IPv6 (RFC 8200 section 4.5).
+pub const FRAGMENT: u8 = 44;

@@ -1,3 +1,4 @@
+//! The parts of TCP segments, UDP datagrams and ICMP messages, lent to be written where they lie.
 ghost use Rattle.std.specs.Prelude.{◌≡◌, ◌↔◌, ◌<◌, length, take, drop, IsNone, IfSome};
 ghost use Rattle.std.specs.Borrow.{sem};
 ghost use Rattle.siit_model.specs.Checksum as model;

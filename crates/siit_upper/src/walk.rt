@@ -1,4 +1,5 @@
-ghost use Rattle.std.specs.Prelude.{◌≡◌, ◌↔◌, ◌≤◌, ◌+◌, length, true, false, Ok, Err, IfOk, IfErr, IfSome, IsNone};
+//! The walk over the extension headers of an IPv6 packet (RFC 8200 section 4).
+ghost use Rattle.std.specs.Prelude.{◌≡◌, ◌↔◌, ◌<◌, ◌≤◌, ◌+◌, length, true, false, Ok, Err, IfOk, IfErr, IfSome, IsNone};
 ghost use Rattle.siit_model.specs.Extensions.{extension_length, fragment_fields, is_cut_short, is_extension, is_passed, segments_with, walk_at_fragment, walk_of};
 ghost use Rattle.siit_upper.specs.Walks.{walk_by_rule, walked};
 
@@ -29,13 +30,14 @@ pub struct Walk {
     pub segments: Option<u32>,
 }
 
-/// Walks over the extension headers of an IPv6 packet's payload, whose first header is of kind `first` (RFC 8200 section
-/// 4). `ShortExt6` where one runs past the end, `ExtOrder6` at Hop-by-Hop Options behind another header, and
+/// Walks over the extension headers of an IPv6 packet's payload, whose first header is of kind `first` (RFC 8200
+/// section 4). `ShortExt6` where one runs past the end, `ExtOrder6` at Hop-by-Hop Options behind another header, and
 /// `ExtAfterFragment6` where an extension header follows a Fragment header: the first of these that the walk meets.
 pub fn walk_ext(payload: &[u8], first: u8) -> Result<Walk, Rule>
     requires { length payload.now ≤ 65535 }
     ensures walk { IfOk result (λ walk. walk_of first payload.now ≡ Ok (walked walk)) }
     ensures within { IfOk result (λ walk. walk.at ≤ length payload.now) }
+    ensures offset { IfOk result (λ walk. IfSome walk.frag (λ frag. frag.offset < 8192)) }
     ensures refused { IfErr result (λ rule. walk_by_rule (walk_of first payload.now) ≡ Err rule) }
 {
     let mut next = first;
@@ -62,7 +64,8 @@ pub fn walk_ext(payload: &[u8], first: u8) -> Result<Walk, Rule>
     }
 }
 
-/// Whether the walk passes over a header of this kind: Hop-by-Hop Options at the first place, Routing, Destination Options.
+/// Whether the walk passes over a header of this kind: Hop-by-Hop Options at the first place, Routing, Destination
+/// Options.
 fn passes(at: usize, next: u8) -> bool
     ensures { result ≡ is_passed at next }
 {
@@ -105,6 +108,7 @@ fn end_at_fragment(rest: &[u8], at: usize, segments: Option<u32>) -> Result<Walk
     requires { at + length rest.now ≤ 65535 }
     ensures walk { IfOk result (λ walk. walk_at_fragment at segments rest.now ≡ Ok (walked walk)) }
     ensures within { IfOk result (λ walk. walk.at ≤ at + length rest.now) }
+    ensures offset { IfOk result (λ walk. IfSome walk.frag (λ frag. frag.offset < 8192)) }
     ensures refused { IfErr result (λ rule. walk_by_rule (walk_at_fragment at segments rest.now) ≡ Err rule) }
 {
     if rest.len() < 8 {
@@ -133,6 +137,7 @@ fn is_extension(next: u8) -> bool
 fn frag_info(field: &[u8]) -> FragInfo
     requires { 8 ≤ length field.now }
     ensures offset { result.offset ≡ (fragment_fields field.now).offset }
+    ensures small { result.offset < 8192 }
     ensures more { result.more ≡ (fragment_fields field.now).more }
     ensures id { result.id ≡ (fragment_fields field.now).id }
 {

@@ -3,3 +3,4 @@ pub mod Heads
 pub mod Written
 pub mod Good
 pub mod Packets
+pub mod Stays

@@ -1,13 +1,29 @@
 -- Packets translated, as worked by hand: bytes to bytes.
-use Rattle.std.specs.Prelude.{◌≡◌, ℕ, ◌*◌, ◌+◌, ◌^◌, List, [], ◌∷◌, ◌++◌, Option, Some, option_map}
+use Rattle.std.specs.Prelude.{◌≡◌, ℕ, ◌*◌, ◌+◌, ◌-◌, ◌^◌, List, [], ◌∷◌, ◌++◌, length, take, drop, replicate, Bool, true, false, Option, Some, option_map}
 use Rattle.siit_model.specs.Bytes.{bytes16}
-use Rattle.siit_model.specs.Ipv4.{ipv4_of}
-use Rattle.siit_model.specs.Ipv6.{ipv6_bytes}
-use Rattle.siit_v4to6.specs.To6.{translated_to_6, udp_checksum6}
+use Rattle.siit_model.specs.Fragments.{Fragment, fragment4}
+use Rattle.siit_model.specs.Ipv4.{ipv4_of, ipv4_fields}
+use Rattle.siit_model.specs.Ipv6.{ipv6_bytes, ipv6_bytes_as}
+use Rattle.siit_v4to6.specs.To6.{Head6, packet6, translated_to_6, udp_checksum6}
+
+-- the header between two addresses, one hop on
+abbrev head_of : (source destination : ℕ) → Fragment → Head6
+head_of source destination f = record {
+  source = source;
+  destination = destination;
+  class = f.common.class;
+  hop = f.common.hop - 1;
+}
 
 -- the bytes of the translated packet of some bytes
+abbrev image_with : (asked : Bool) → (source destination : ℕ) → List ℕ → Option (List ℕ)
+image_with asked source destination bytes =
+    option_map
+    (λ packet. let f = fragment4 packet in ipv6_bytes (packet6 asked (translated_to_6 (head_of source destination f) (length f.bytes) f)))
+    (ipv4_of bytes)
+
 abbrev image : (source destination : ℕ) → List ℕ → Option (List ℕ)
-image source destination bytes = option_map (λ packet. ipv6_bytes (translated_to_6 source destination packet.tos packet)) (ipv4_of bytes)
+image source destination bytes = image_with false source destination bytes
 
 -- 8.8.8.8 under the well-known prefix, and the address of 192.0.2.1 by an explicit mapping
 abbrev eights6 : ℕ
@@ -76,6 +92,43 @@ pub record EchoExamples : Type 0 where
   pub reply : image eights6 ones6 (header4 32 1 0x68cb ++ echo 0 0x2904) ≡ Some (header6 12 58 ++ echo 129 0x95ab)
   -- of three bytes the type changes, and half a checksum stays
   pub cut : image eights6 ones6 (header4 23 1 0x68d4 ++ 8 ∷ 0 ∷ 0x21 ∷ []) ≡ Some (header6 3 58 ++ 128 ∷ 0 ∷ 0x21 ∷ [])
+
+-- a fragment of a TCP segment, from 8.8.8.8 to 192.0.2.1, with identification 0102, and with flags, offset and a header
+-- checksum
+abbrev fragment_of : (total shape checksum : ℕ) → List ℕ → List ℕ
+fragment_of total shape checksum bytes =
+    0x45 ∷ 0x00 ∷ bytes16 total ++ 0x01 ∷ 0x02 ∷ bytes16 shape ++ 0x40 ∷ 0x06 ∷ bytes16 checksum
+    ++ 0x08 ∷ 0x08 ∷ 0x08 ∷ 0x08 ∷ 0xc0 ∷ 0x00 ∷ 0x02 ∷ 0x01 ∷ bytes
+
+-- the header of its IPv6 packet, and a Fragment header with the low bytes of the offset's word
+abbrev fragment_headers : (len shape id : ℕ) → List ℕ → List ℕ
+fragment_headers len shape id bytes =
+    0x60 ∷ 0x00 ∷ 0x00 ∷ 0x00 ∷ bytes16 len ++ 0x2c ∷ 0x3f
+    ∷ 0x00 ∷ 0x64 ∷ 0xff ∷ 0x9b ∷ 0x00 ∷ 0x00 ∷ 0x00 ∷ 0x00 ∷ 0x00 ∷ 0x00 ∷ 0x00 ∷ 0x00 ∷ 0x08 ∷ 0x08 ∷ 0x08 ∷ 0x08
+    ∷ 0x20 ∷ 0x01 ∷ 0x0d ∷ 0xb8 ∷ 0x64 ∷ 0x64 ∷ 0x00 ∷ 0x00 ∷ 0x00 ∷ 0x00 ∷ 0x00 ∷ 0x00 ∷ 0x00 ∷ 0x00 ∷ 0x00 ∷ 0x01
+    ∷ 0x06 ∷ 0x00 ∷ bytes16 shape ++ 0x00 ∷ 0x00 ∷ bytes16 id ++ bytes
+
+-- a segment of 800 bytes that goes on in further fragments
+abbrev long_segment : ℕ → List ℕ
+long_segment checksum = segment checksum ++ replicate 780 7
+
+-- a quoted packet, sent with 20 bytes behind its header
+abbrev quoted_image : Fragment → List ℕ
+quoted_image f =
+    ipv6_bytes_as 20 (packet6 false (translated_to_6 (record (head_of eights6 server6 f) { hop = f.common.hop }) 20 f))
+
+pub record FragmentExamples : Type 0 where
+  -- the first fragment, at 0 with More: its checksum is moved, whatever the length of the whole segment is
+  pub first : image eights6 server6 (fragment_of 820 0x2000 0x84b1 (long_segment 0xfd7f))
+      ≡ Some (fragment_headers 808 0x0001 0x0102 (long_segment 0x2d63))
+  -- the last, at 1,600: its bytes stay
+  pub last : image eights6 server6 (fragment_of 220 0x00c8 0xa641 (replicate 200 7))
+      ≡ Some (fragment_headers 208 0x0640 0x0102 (replicate 200 7))
+  -- a whole packet gets a Fragment header where one is asked for
+  pub asked : image_with true eights6 server6 (arriving 0xfd7f) ≡ Some (fragment_headers 28 0x0000 0x0001 (segment 0x2d63))
+  -- of a quoted packet of 40 bytes 38 are there: the length is that of the packet as sent, and the TTL is copied
+  pub quoted : quoted_image (fragment4 (ipv4_fields (take 38 (arriving 0xfd7f))))
+      ≡ take 58 (0x60 ∷ 0x00 ∷ 0x00 ∷ 0x00 ∷ 0x00 ∷ 0x14 ∷ 0x06 ∷ 0x40 ∷ drop 8 (leaving 0x2d63))
 
 pub record UdpSumExamples : Type 0 where
   -- of an even and of an odd length, whatever the checksum field holds

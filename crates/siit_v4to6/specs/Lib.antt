@@ -1,3 +1,4 @@
 pub mod To6
+pub mod Heads
 pub mod Laws
 pub mod Examples

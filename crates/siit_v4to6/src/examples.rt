@@ -1,5 +1,5 @@
 //! Packets translated as worked by hand, each table the contract of a function with no body.
-ghost use Rattle.siit_v4to6.specs.Examples.{EchoExamples, OnesExamples, TcpExamples, UdpSumExamples};
+ghost use Rattle.siit_v4to6.specs.Examples.{EchoExamples, FragmentExamples, OnesExamples, TcpExamples, UdpSumExamples};
 
 /// One TCP packet, with a right and with a wrong checksum.
 pub fn tcp_examples()
@@ -19,4 +19,9 @@ pub fn echo_examples()
 /// UDP checksums over IPv6 that are computed from nothing (RFC 8200 section 8.1).
 pub fn udp_sum_examples()
     ensures { UdpSumExamples }
+{}
+
+/// Two fragments of one TCP segment, and a quoted packet of which the end is missing.
+pub fn fragment_examples()
+    ensures { FragmentExamples }
 {}

@@ -10,6 +10,6 @@ pub struct Head46 {
     pub dst: Addr6,
     /// The traffic class.
     pub class: u8,
-    /// Whether a packet that is no fragment gets a Fragment header. It must be false for now.
+    /// Whether a packet that is no fragment gets a Fragment header too, as one that is cut afterwards.
     pub fragment: bool,
 }

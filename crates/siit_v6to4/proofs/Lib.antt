@@ -2,3 +2,5 @@ pub mod Heads
 pub mod Written
 pub mod Good
 pub mod Packets
+pub mod Stays
+pub mod Turned

@@ -1,5 +1,5 @@
 //! Packets translated as worked by hand, each table the contract of a function with no body.
-ghost use Rattle.siit_v6to4.specs.Examples.{EchoExamples, HeaderExamples, OnesExamples, TcpExamples};
+ghost use Rattle.siit_v6to4.specs.Examples.{EchoExamples, FragmentExamples, HeaderExamples, OnesExamples, TcpExamples};
 
 /// One TCP packet, with a right and with a wrong checksum.
 pub fn tcp_examples()
@@ -19,4 +19,9 @@ pub fn echo_examples()
 /// Extension headers that are passed over, and the flag Don't Fragment (RFC 7915 section 5.1).
 pub fn header_examples()
     ensures { HeaderExamples }
+{}
+
+/// Two fragments of one TCP segment, and a quoted packet of which the end is missing.
+pub fn fragment_examples()
+    ensures { FragmentExamples }
 {}

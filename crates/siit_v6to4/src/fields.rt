@@ -10,6 +10,6 @@ pub struct Head64 {
     pub dst: Addr4,
     /// The type of service.
     pub tos: u8,
-    /// The identification.
+    /// The identification, where the packet has no Fragment header.
     pub ident: u16,
 }

@@ -1,4 +1,5 @@
--- Bytes that were lent to be written: they are lent on to a call that reads them and come back as they were, or are let go as they are.
+-- Bytes that were lent to be written: they are lent on to a call that reads them and come back as they were, or are let
+-- go as they are.
 use Rattle.std.proofs.Common.{ℕ, List, [], ◌∷◌, MutBor, refl}
 use seplogic.Ra.Ura.{Ura}
 use base.Fml.{Lft, Share, fdead, flft, fobs}

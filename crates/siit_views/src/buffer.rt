@@ -1,3 +1,4 @@
+//! The buffer that a packet lies in while it is translated.
 ghost use Rattle.std.specs.Prelude.{◌≡◌, ◌+◌, ◌≤◌, ◌++◌, [], length, take, drop, replicate, IfOk};
 ghost use Rattle.std.specs.Borrow.{sem};
 ghost use Rattle.siit_views.specs.Contents.{centred};

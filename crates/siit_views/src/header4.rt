@@ -1,3 +1,4 @@
+//! IPv4 headers as they are read (RFC 791 section 3.1).
 ghost use Rattle.std.specs.Prelude.{◌≡◌, ◌≤◌, ◌==◌, length, IfOk, OnOk, IfErr};
 ghost use Rattle.siit_model.specs.Bytes.{field16};
 ghost use Rattle.siit_model.specs.Ipv4.{header_length_in, ipv4_fields, total_length_in, version_in};
@@ -155,8 +156,8 @@ pub struct Lengths4 {
     pub total: usize,
 }
 
-/// Whether bytes are an IPv4 packet, with bytes of the link behind it or none: `Short4` and `BadHeader4` where they are not
-/// (RFC 791 section 3.1). A wrong header checksum is a bad header.
+/// Whether bytes are an IPv4 packet, with bytes of the link behind it or none: `Short4` and `BadHeader4` where they are
+/// not (RFC 791 section 3.1). A wrong header checksum is a bad header.
 pub fn check4(bytes: &[u8]) -> Result<Lengths4, Rule>
     ensures refused { IfErr result (λ rule. refusal4 bytes.now ≡ Some rule) }
     ensures accepted { OnOk result (refusal4 bytes.now ≡ None) }

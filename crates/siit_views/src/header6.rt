@@ -1,3 +1,4 @@
+//! IPv6 headers as they are read (RFC 8200 section 3).
 ghost use Rattle.std.specs.Prelude.{◌≡◌, ◌≤◌, ◌+◌, length, IfOk, OnOk, IfErr};
 ghost use Rattle.siit_model.specs.Ipv6.{ipv6_fields, payload_length_in, version6_in};
 ghost use Rattle.siit_views.specs.Headers.{HasLength6, refusal6};
@@ -101,8 +102,8 @@ impl<'a> Ipv6Header<'a> {
     }
 }
 
-/// Whether bytes are an IPv6 packet, with bytes of the link behind it or none: `Short6` and `BadHeader6` where they are not
-/// (RFC 8200 section 3). On Ok the packet's length in bytes.
+/// Whether bytes are an IPv6 packet, with bytes of the link behind it or none: `Short6` and `BadHeader6` where they are
+/// not (RFC 8200 section 3). On Ok the packet's length in bytes.
 pub fn check6(bytes: &[u8]) -> Result<usize, Rule>
     ensures refused { IfErr result (λ rule. refusal6 bytes.now ≡ Some rule) }
     ensures accepted { OnOk result (refusal6 bytes.now ≡ None) }

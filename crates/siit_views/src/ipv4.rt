@@ -1,3 +1,4 @@
+//! An IPv4 packet lent in parts, to be written where it lies (RFC 791 section 3.1).
 ghost use Rattle.std.specs.Prelude.{◌≡◌, ◌≤◌, ◌==◌, length, take, Some, None, IfOk, IfErr, OnOk};
 ghost use Rattle.std.specs.Borrow.{sem};
 ghost use Rattle.siit_model.specs.Bytes.{field16};
@@ -21,9 +22,9 @@ pub struct Ipv4View<'a> {
     pub payload: &'a mut [u8],
 }
 
-/// The IPv4 packet in some bytes, as the first 20 bytes of its header, the options and the payload, refused by `Short4` and
-/// `BadHeader4` as `check4` says (RFC 791 section 3.1). What is written through the parts is in `bytes` afterwards, and bytes
-/// of the link behind the packet stay.
+/// The IPv4 packet in some bytes, as the first 20 bytes of its header, the options and the payload, refused by `Short4`
+/// and `BadHeader4` as `check4` says (RFC 791 section 3.1). What is written through the parts is in `bytes` afterwards,
+/// and bytes of the link behind the packet stay.
 pub fn view4(bytes: &mut [u8]) -> Result<Ipv4View<'_>, Rule>
     ensures* writes_back { sem 𝓛 (LendsPacket4 bytes.entry result) }
     ensures refused { IfErr result (λ rule. refusal4 bytes.old ≡ Some rule) }

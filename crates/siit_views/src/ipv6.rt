@@ -1,3 +1,4 @@
+//! An IPv6 packet lent in parts, to be written where it lies (RFC 8200 section 3).
 ghost use Rattle.std.specs.Prelude.{◌≡◌, ◌≤◌, length, take, Some, None, IfOk, IfErr, OnOk};
 ghost use Rattle.std.specs.Borrow.{sem};
 ghost use Rattle.siit_model.specs.Ipv6.{ipv6_fields, payload_length_in};
@@ -19,8 +20,8 @@ pub struct Ipv6View<'a> {
 }
 
 /// The IPv6 packet in some bytes, as its header and its payload, refused by `Short6` and `BadHeader6` as `check6` says
-/// (RFC 8200 section 3). What is written through the parts is in `bytes` afterwards, and bytes of the link behind the packet
-/// stay.
+/// (RFC 8200 section 3). What is written through the parts is in `bytes` afterwards, and bytes of the link behind the
+/// packet stay.
 pub fn view6(bytes: &mut [u8]) -> Result<Ipv6View<'_>, Rule>
     ensures* writes_back { sem 𝓛 (LendsPacket6 bytes.entry result) }
     ensures refused { IfErr result (λ rule. refusal6 bytes.old ≡ Some rule) }

@@ -1,3 +1,4 @@
+//! Bytes lent in two parts.
 ghost use Rattle.std.specs.Prelude.{◌≡◌, ◌≤◌, length, take, drop};
 ghost use Rattle.std.specs.Borrow.{sem};
 ghost use Rattle.siit_views.specs.Parts.{LendsFragment, LendsHalves};

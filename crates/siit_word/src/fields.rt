@@ -1,4 +1,4 @@
-// Fields of headers, big-endian as RFC 791 and RFC 8200 send them.
+//! Fields of headers, big-endian as RFC 791 and RFC 8200 send them.
 ghost use Rattle.siit_model.specs.Bytes.{field16, field32, with_field16, with_field32};
 ghost use Rattle.std.specs.Prelude.{◌≡◌, ◌+◌, ◌≤◌, length};
 

@@ -1,8 +1,8 @@
-// The identifications that devices hand out.
+//! The identifications that devices hand out.
 ghost use Rattle.std.specs.Prelude.{◌≡◌, ◌+◌, ◌%◌, ◌<◌, ℕ, slice_index};
 
-/// The identifications of packets (RFC 791 section 3.1) that each device hands out, as a list without end. Neither call can
-/// be refused.
+/// The identifications of packets (RFC 791 section 3.1) that each device hands out, as a list without end. Neither call
+/// can be refused.
 pub trait Idents {
     ghost use Rattle.siit_word.specs.Idents.{DropsFirst, KeepsOtherDevices};
 

@@ -1,8 +1,8 @@
-// Files in memory, with calls that fail as they are told to.
-ghost use Rattle.siit_word.specs.Causes.{next_count, NeverFalls, Rose};
+//! Files in memory, with calls that fail as they are told to.
+ghost use Rattle.siit_word.specs.Causes.{next_count, NeverFalls};
 ghost use Rattle.siit_word.specs.Files.{held, raised, Stays, StaysBut};
 ghost use Rattle.std.specs.Option.{option_copied};
-ghost use Rattle.std.specs.Prelude.{◌≡◌, ◌≢◌, ◌↔◌, ◌⊎◌, ◌-◌, ◌≤◌, ℕ, List, min, take, drop, length, Some, None, IfOk, OnOk, OnErr, IsErr, IsSome, IsTrue, Contains, []};
+ghost use Rattle.std.specs.Prelude.{◌≡◌, ◌≢◌, ◌↔◌, ◌⊎◌, ◌-◌, ◌≤◌, ℕ, List, min, take, drop, length, Some, None, IfOk, OnOk, OnErr, IsErr, IsSome, IsTrue, Contains, [], ◌∷◌};
 
 use crate::{Failed, Files, NoMemory};
 use std::alloc::Global;
@@ -16,8 +16,8 @@ struct MemFile {
     write_faults: u64,
 }
 
-/// Files in memory, by name. Calls of the trait [`Files`] are numbered from 0, and those named by `fail_at` fail. Every name
-/// is told, also one without a file.
+/// Files in memory, by name. Calls of the trait [`Files`] are numbered from 0, and those named by `fail_at` fail. Every
+/// name is told, also one without a file.
 #[derive(Drop)]
 pub struct MemFiles {
     alloc: Global,
@@ -138,8 +138,8 @@ impl MemFiles {
         self.starved
     }
 
-    /// Names the calls of [`Files`] that are to fail, in place of those named before. The first call has the number 0. Where
-    /// memory is refused, all is as before.
+    /// Names the calls of [`Files`] that are to fail, in place of those named before. The first call has the number 0.
+    /// Where memory is refused, all is as before.
     pub fn fail_at(&mut self, calls: &[u64]) -> Result<(), NoMemory>
         ensures ok { OnOk result (fails_of self.new ≡ calls.now) }
         ensures err { OnErr result (fails_of self.new ≡ fails_of self.old) }
@@ -196,8 +196,8 @@ impl MemFiles {
         ensures writes_ok { OnOk result (Stays (write_faults_of self.old) (write_faults_of self.new)) }
         ensures writes_err { OnErr result (self.new.write_faults ≡ next_count self.old.write_faults) }
         ensures starved_ok { OnOk result (self.new.starved ≡ self.old.starved) }
-        ensures starved_err { OnErr result ((IsTrue fails × (self.new.starved ≡ self.old.starved))
-            ⊎ (self.new.starved ≡ next_count self.old.starved)) }
+        ensures starved_err { OnErr result (IsTrue fails ⊎ (self.new.starved ≡ next_count self.old.starved)) }
+        ensures starved_refused { IsTrue fails → self.new.starved ≡ self.old.starved }
         ensures same { self.new ≡ record self.old { files = self.new.files; starved = self.new.starved; write_faults = self.new.write_faults } }
     {
         if !fails {
@@ -223,45 +223,29 @@ impl MemFiles {
 
 #[tactic(auto, using(std::proofs::lemmas::Map::Text::text_keys))]
 impl Files for MemFiles {
-    ghost use Rattle.siit_word.specs.Files.{Appends, Copies, IsSmall, MadeEmpty, Raised};
-    ghost use Rattle.siit_word.specs.Memory.{calls_of, contents_of, fails_of, given_of, read_faults_of, starved_of, write_faults_of};
-    ghost use Rattle.std.specs.Prelude.{true};
+    ghost use Rattle.siit_word.specs.Files.{Added, Copied, NotAdded, NotCopied, Touches, WriteFailed, Written, WrittenPart};
+    ghost use Rattle.siit_word.specs.Memory.{calls_of, contents_of, fails_of, meaning_of, read_faults_of, starved_of, write_faults_of, IsToFail, RaisedBy};
+    ghost use Rattle.siit_model.specs.Bytes.{AreBytes};
 
-    ghost is_told = { λ m q. true };
-
-    ghost contents = { contents_of };
-
-    ghost given = { λ m q. Some (given_of m q) };
-
-    ghost read_faults = { read_faults_of };
-
-    ghost write_faults = { write_faults_of };
+    ghost meaning = { meaning_of };
 
     fn read(&mut self, name: &str, at: u64, into: &mut [u8]) -> Result<usize, Failed>
         // As the trait says.
         ensures bound { IfOk result (λ n. n ≤ length into.new) }
-        ensures copied { IfOk result
-            (λ n. IsTrue true → Copies (contents_of self.old name.now) at n into.new) }
-        ensures small { OnOk result (IsTrue true → IsSmall (contents_of self.old name.now)) }
-        ensures given { Raised (λ q. Some (given_of self.old q)) (λ q. Some (given_of self.new q)) name.now at result }
-        ensures told { Stays (λ q. true) (λ q. true) }
-        ensures contents { Stays (contents_of self.old) (contents_of self.new) }
-        ensures cause { OnErr result (Rose (read_faults_of self.old name.now) (read_faults_of self.new name.now)) }
-        ensures reads { NeverFalls (read_faults_of self.old) (read_faults_of self.new) }
-        ensures writes { NeverFalls (write_faults_of self.old) (write_faults_of self.new) }
+        ensures ok { IfOk result (λ n. Copied (meaning_of self.old) (meaning_of self.new) name.now at into.new n) }
+        ensures err { OnErr result (NotCopied (meaning_of self.old) (meaning_of self.new) name.now) }
+        ensures only { Touches (meaning_of self.old) (meaning_of self.new) (name.now ∷ []) [] }
+        ensures bytes { AreBytes into.new }
 
         // It moves all that is there and fits, and fails only where it must.
         ensures all { IfOk result (λ n. n ≡ min (length into.old) (length (held (contents_of self.old name.now)) - at)) }
         ensures kept { IfOk result (λ n. drop n into.new ≡ drop n into.old) }
         ensures kept_err { OnErr result (into.new ≡ into.old) }
-        ensures failed { IsErr result
-            ↔ (Contains (fails_of self.old) (calls_of self.old) ⊎ (contents_of self.old name.now ≡ None)) }
+        ensures failed { IsErr result ↔ (IsToFail self.old ⊎ (contents_of self.old name.now ≡ None)) }
 
         // The counts.
         ensures reads_ok { OnOk result (Stays (read_faults_of self.old) (read_faults_of self.new)) }
-        ensures reads_err { OnErr result (read_faults_of self.new name.now ≡ next_count (read_faults_of self.old name.now)) }
-        ensures reads_others { (q : List ℕ) → q ≢ name.now → IsSome (contents_of self.old q)
-            → read_faults_of self.new q ≡ read_faults_of self.old q }
+        ensures reads_err { OnErr result (RaisedBy self.old name.now (read_faults_of self.old) (read_faults_of self.new)) }
         ensures writes_stay { Stays (write_faults_of self.old) (write_faults_of self.new) }
         ensures counted { calls_of self.new ≡ next_count (calls_of self.old) }
         ensures fails { fails_of self.new ≡ fails_of self.old }
@@ -285,28 +269,20 @@ impl Files for MemFiles {
 
     fn create(&mut self, name: &str) -> Result<(), Failed>
         // As the trait says.
-        ensures made { IsTrue true
-            → MadeEmpty (contents_of self.old name.now) (contents_of self.new name.now) result }
-        ensures others { StaysBut name.now (contents_of self.old) (contents_of self.new) }
-        ensures given { Stays (λ q. Some (given_of self.old q)) (λ q. Some (given_of self.new q)) }
-        ensures told { Stays (λ q. true) (λ q. true) }
-        ensures cause { OnErr result (Rose (write_faults_of self.old name.now) (write_faults_of self.new name.now)) }
-        ensures reads { NeverFalls (read_faults_of self.old) (read_faults_of self.new) }
-        ensures writes { NeverFalls (write_faults_of self.old) (write_faults_of self.new) }
+        ensures ok { OnOk result (Written (meaning_of self.old) (meaning_of self.new) name.now []) }
+        ensures err { OnErr result (WrittenPart (meaning_of self.old) (meaning_of self.new) name.now []) }
+        ensures cause { OnErr result (WriteFailed (meaning_of self.old) (meaning_of self.new) name.now) }
 
         // It fails where it must, and else only where memory was refused. Then all files are as before.
-        ensures refused { Contains (fails_of self.old) (calls_of self.old) → IsErr result }
-        ensures err { OnErr result (Stays (contents_of self.old) (contents_of self.new)) }
+        ensures refused { IsToFail self.old → IsErr result }
+        ensures same { OnErr result (Stays (contents_of self.old) (contents_of self.new)) }
         ensures starved_ok { OnOk result (starved_of self.new ≡ starved_of self.old) }
-        ensures starved_err { OnErr result
-            ((Contains (fails_of self.old) (calls_of self.old) × (starved_of self.new ≡ starved_of self.old))
-            ⊎ (starved_of self.new ≡ next_count (starved_of self.old))) }
+        ensures starved_err { OnErr result (IsToFail self.old ⊎ (starved_of self.new ≡ next_count (starved_of self.old))) }
+        ensures starved_refused { IsToFail self.old → starved_of self.new ≡ starved_of self.old }
 
         // The counts.
         ensures writes_ok { OnOk result (Stays (write_faults_of self.old) (write_faults_of self.new)) }
-        ensures writes_err { OnErr result (write_faults_of self.new name.now ≡ next_count (write_faults_of self.old name.now)) }
-        ensures writes_others { (q : List ℕ) → q ≢ name.now → IsSome (contents_of self.old q)
-            → write_faults_of self.new q ≡ write_faults_of self.old q }
+        ensures writes_err { OnErr result (RaisedBy self.old name.now (write_faults_of self.old) (write_faults_of self.new)) }
         ensures reads_stay { Stays (read_faults_of self.old) (read_faults_of self.new) }
         ensures counted { calls_of self.new ≡ next_count (calls_of self.old) }
         ensures fails { fails_of self.new ≡ fails_of self.old }
@@ -328,30 +304,20 @@ impl Files for MemFiles {
     fn append(&mut self, name: &str, bytes: &[u8]) -> Result<usize, Failed>
         // As the trait says.
         ensures bound { IfOk result (λ n. n ≤ length bytes.now) }
-        ensures some { IfOk result (λ n. min 1 (length bytes.now) ≤ n) }
-        ensures added { IsTrue true
-            → Appends (contents_of self.old name.now) (contents_of self.new name.now) bytes.now result }
-        ensures small { OnOk result (IsTrue true → IsSmall (contents_of self.new name.now)) }
-        ensures others { StaysBut name.now (contents_of self.old) (contents_of self.new) }
-        ensures given { Stays (λ q. Some (given_of self.old q)) (λ q. Some (given_of self.new q)) }
-        ensures told { Stays (λ q. true) (λ q. true) }
-        ensures cause { OnErr result (Rose (write_faults_of self.old name.now) (write_faults_of self.new name.now)) }
-        ensures reads { NeverFalls (read_faults_of self.old) (read_faults_of self.new) }
-        ensures writes { NeverFalls (write_faults_of self.old) (write_faults_of self.new) }
+        ensures ok { IfOk result (λ n. Added (meaning_of self.old) (meaning_of self.new) name.now bytes.now n) }
+        ensures err { OnErr result (NotAdded (meaning_of self.old) (meaning_of self.new) name.now) }
+        ensures only { Touches (meaning_of self.old) (meaning_of self.new) [] (name.now ∷ []) }
 
         // It moves all that it is given. It fails where it must, and else only where memory was refused.
         ensures all { IfOk result (λ n. n ≡ length bytes.now) }
-        ensures refused { Contains (fails_of self.old) (calls_of self.old) → IsErr result }
+        ensures refused { IsToFail self.old → IsErr result }
         ensures starved_ok { OnOk result (starved_of self.new ≡ starved_of self.old) }
-        ensures starved_err { OnErr result
-            ((Contains (fails_of self.old) (calls_of self.old) × (starved_of self.new ≡ starved_of self.old))
-            ⊎ (starved_of self.new ≡ next_count (starved_of self.old))) }
+        ensures starved_err { OnErr result (IsToFail self.old ⊎ (starved_of self.new ≡ next_count (starved_of self.old))) }
+        ensures starved_refused { IsToFail self.old → starved_of self.new ≡ starved_of self.old }
 
         // The counts.
         ensures writes_ok { OnOk result (Stays (write_faults_of self.old) (write_faults_of self.new)) }
-        ensures writes_err { OnErr result (write_faults_of self.new name.now ≡ next_count (write_faults_of self.old name.now)) }
-        ensures writes_others { (q : List ℕ) → q ≢ name.now → IsSome (contents_of self.old q)
-            → write_faults_of self.new q ≡ write_faults_of self.old q }
+        ensures writes_err { OnErr result (RaisedBy self.old name.now (write_faults_of self.old) (write_faults_of self.new)) }
         ensures reads_stay { Stays (read_faults_of self.old) (read_faults_of self.new) }
         ensures counted { calls_of self.new ≡ next_count (calls_of self.old) }
         ensures fails { fails_of self.new ≡ fails_of self.old }

@@ -1,6 +1,8 @@
+//! Runs over files in memory.
 use super::*;
 use crate::{Status, status_line};
 use siit_config::ConfigFault;
+use siit_dns::DnsFault;
 use siit_eamt::EamFault;
 use siit_word::{Counter, MemFiles};
 use std::alloc::{AllocError, Global};
@@ -476,7 +478,15 @@ fn prints_what_no_short_run_ends_with(rt: HostRuntime) {
         device: 8,
         fault: EamFault::TooMany,
     };
-    let rows: [(Status, u8, &[u8]); 3] = [
+    let answer_too_long = Status::BadMessage {
+        word: 4,
+        fault: DnsFault::AnswerTooLong,
+    };
+    let not_query = Status::BadMessage {
+        word: 2,
+        fault: DnsFault::NotQuery,
+    };
+    let rows: [(Status, u8, &[u8]); 5] = [
         (Status::Ok, 0, b""),
         (Status::NoMemory, 7, b"siit: no memory\n"),
         (
@@ -484,10 +494,85 @@ fn prints_what_no_short_run_ends_with(rt: HostRuntime) {
             3,
             b"siit: bad config: device 8: too many\n",
         ),
+        (not_query, 9, b"siit: bad message: word 2: not query\n"),
+        (
+            answer_too_long,
+            9,
+            b"siit: bad message: word 4: answer too long\n",
+        ),
     ];
     for (status, code, text) in rows {
         let line = status_line(rt.alloc(), &status).expect(&rt, "memory");
         assert_eq!(rt; line.as_slice(), text);
         assert_eq!(rt; status.code(), code);
     }
+}
+
+/// An answer about ipv4only.arpa with 2001:db8:64:64:c0:0:aa00:0 and 2001:db8:64:64:c0:0:ab00:0.
+const SHOWN: &[u8] =
+    b"\x00\x07\x81\x80\x00\x01\x00\x02\x00\x00\x00\x00\x08ipv4only\x04arpa\x00\x00\x1c\x00\x01\xc0\x0c\x00\x1c\x00\x01\x00\x01Q\x80\x00\x10\x20\x01\x0d\xb8\x00d\x00d\x00\xc0\x00\x00\xaa\x00\x00\x00\xc0\x0c\x00\x1c\x00\x01\x00\x01Q\x80\x00\x10\x20\x01\x0d\xb8\x00d\x00d\x00\xc0\x00\x00\xab\x00\x00\x00";
+
+/// How many bytes of it ANSWER has, its flags, the exit status, and what is printed.
+const ANSWERS: &[(usize, u8, u8, &str)] = &[
+    (87, 0x81, 0, "2001:db8:64:64::/64\n"),
+    (87, 0x01, 9, "siit: bad message: word 1: not answer\n"),
+    (11, 0x81, 9, "siit: bad message: word 1: at 0\n"),
+    (0, 0x81, 9, "siit: bad message: word 1: at 0\n"),
+];
+
+/// The exit status of `discover answer` over this answer, and what the program prints.
+fn discovered(rt: &impl Abort, alloc: Global, answer: &[u8]) -> (u8, Vec<u8>) {
+    let mut files = MemFiles::new(alloc);
+    files.put("answer", answer).expect(rt, "memory");
+    ran(rt, alloc, &["discover", "answer"], &mut files)
+}
+
+#[test]
+fn shows_prefixes(rt: HostRuntime) {
+    for &(len, flags, code, line) in ANSWERS {
+        let mut answer = Vec::new(rt.alloc());
+        for &byte in SHOWN.iter().take(len) {
+            assert!(rt; answer.push(byte).is_ok());
+        }
+        if let Some(byte) = answer.get_mut(2) {
+            *byte = flags;
+        }
+        let (status, printed) = discovered(&rt, rt.alloc(), &answer);
+        assert_eq!(rt; printed.as_slice(), line.as_bytes());
+        assert_eq!(rt; status, code);
+    }
+}
+
+/// A query for the IPv6 addresses of a.example, a response to it with none, one with 192.0.2.33 to the query for IPv4
+/// addresses, and the answer that is made under 2001:db8:122:344::/96.
+const QUERY: &[u8] =
+    b"\x12\x34\x01\x00\x00\x01\x00\x00\x00\x00\x00\x00\x01a\x07example\x00\x00\x1c\x00\x01";
+
+const RESPONSE: &[u8] =
+    b"\x12\x34\x81\x80\x00\x01\x00\x00\x00\x00\x00\x00\x01a\x07example\x00\x00\x1c\x00\x01";
+
+const ADDRESS: &[u8] =
+    b"\x12\x34\x81\x80\x00\x01\x00\x01\x00\x00\x00\x00\x01a\x07example\x00\x00\x01\x00\x01\x01a\x07example\x00\x00\x01\x00\x01\x00\x00\x0e\x10\x00\x04\xc0\x00\x02\x21";
+
+const MADE: &[u8] =
+    b"\x12\x34\x81\x80\x00\x01\x00\x01\x00\x00\x00\x00\x01a\x07example\x00\x00\x1c\x00\x01\x01a\x07example\x00\x00\x1c\x00\x01\x00\x00\x02\x58\x00\x10\x20\x01\x0d\xb8\x01\x22\x03\x44\x00\x00\x00\x00\xc0\x00\x02\x21";
+
+#[test]
+fn answers_queries(rt: HostRuntime) {
+    let mut files = MemFiles::new(rt.alloc());
+    files.put("q", QUERY).expect(&rt, "memory");
+    files.put("r", RESPONSE).expect(&rt, "memory");
+    files.put("a", ADDRESS).expect(&rt, "memory");
+    let words = ["dns64", "2001:db8:122:344::/96", "q", "r", "a", "out"];
+    let (status, printed) = ran(&rt, rt.alloc(), &words, &mut files);
+    assert_eq!(rt; status, 0);
+    assert_eq!(rt; printed.as_slice(), "made 1\n".as_bytes());
+    assert!(rt; files.bytes_of("out") == Some(MADE));
+    let words = ["dns64", "2001:db8:122:344::/96", "r", "r", "a", "out"];
+    let (status, printed) = ran(&rt, rt.alloc(), &words, &mut files);
+    assert_eq!(rt;
+        printed.as_slice(),
+        "siit: bad message: word 2: not query\n".as_bytes()
+    );
+    assert_eq!(rt; status, 9);
 }

@@ -3,7 +3,8 @@ use Rattle.std.proofs.lemmas.List.{drop_more}
 use Rattle.std.proofs.lemmas.List.Elements.{All-push}
 use Rattle.toml.specs.View.{table_view}
 use Rattle.siit_config.specs.Config.{devices_of}
-use Rattle.siit_config.specs.Devices.{device_of, IsWithinLimits}
+use Rattle.siit_roles.specs.Limits.{IsWithinLimits}
+use Rattle.siit_config.specs.Devices.{device_of}
 use Rattle.siit_config.proofs.Steps.{one_more}
 use Rattle.siit_config.proofs.device.devices_of.Goals as goal
 

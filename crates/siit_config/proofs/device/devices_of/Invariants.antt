@@ -1,7 +1,7 @@
 use Rattle.std.proofs.Common.{◌≡◌, ◌+◌, ◌++◌, drop, map, Ok, All, vec_len}
 use Rattle.toml.specs.View.{table_view}
 use Rattle.siit_config.specs.Config.{devices_of}
-use Rattle.siit_config.specs.Devices.{IsWithinLimits}
+use Rattle.siit_roles.specs.Limits.{IsWithinLimits}
 use Rattle.siit_config.specs.Faults.{◌>>=◌}
 use Rattle.siit_config.proofs.device.devices_of.Given as goal
 

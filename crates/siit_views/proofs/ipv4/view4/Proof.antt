@@ -1,4 +1,5 @@
--- The walk through `view4`: the bytes are lent to `check4`. A refusal leaves them as they were, and otherwise they are split three times.
+-- The walk through `view4`: the bytes are lent to `check4`. A refusal leaves them as they were, and otherwise they are
+-- split three times.
 use Rattle.std.proofs.Common.{◌≡◌, ◌^◌, ◌-◌, ◌≤◌, ◌<◌, ℕ, List, [], ◌∷◌, ◌++◌, refl, sym, ap, ◌∙◌, length, take, drop as drop_l, IfOk, IfErr, OnOk, Some, None, Err, Ok, Result, lit<, subst, arith}
 use Rattle.std.proofs.raw_atomic.Walks.{proved}
 use Rattle.std.proofs.lemmas.List.{length-take-le}
@@ -148,7 +149,8 @@ view4_spec 𝓤 𝓛 𝓜 𝓡 wired =
           calls_at ! framed_by S split_met (ask w.front 20)
           (and_then ! (get ! refl) (and_then ! (lit ! tt) (no_more !))) (λ v₃.
           use1 𝓛 (got w.front 20 v₃) (gets w.front 20 v₃) $ await ! tt $ pick ! (λ h. learn ! (λ at_h. split ! $ move ! (1 ∷ []) $ split3 ! $
-          -- [the options; the header's loan; the token; the head; the payload; the packet's loan; what is behind; the loan]
+          -- [the options; the header's loan; the token; the head; the payload; the packet's loan; what is behind; the
+          -- loan]
           lands_as ! at_h.is refl (tt, ((tt, (record { fits = at_h.front_fits }, tt)), ((tt, (record { fits = at_h.rest_fits }, tt)), tt))) $
           sets ! (addr ! (from ! (fld ! refl (fld ! refl (hop ! (look_in_at ! 7 (sub ! 0 refl (sub ! 0 refl (whole !)))) (stop !)))))) refl (tt, tt) $
           sets ! (agg ! (and_then ! (get ! refl) (and_then ! (get_in ! (fld ! refl (fld ! refl (stop !))) (sub ! 1 refl (sub ! 0 refl (whole !)))) (no_more !)))) refl (tt, (tt, (record { fits = at_h.front_fits }, tt))) $

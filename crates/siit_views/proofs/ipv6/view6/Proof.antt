@@ -1,4 +1,5 @@
--- The walk through `view6`: the bytes are lent to `check6`. A refusal leaves them as they were, and otherwise they are split twice.
+-- The walk through `view6`: the bytes are lent to `check6`. A refusal leaves them as they were, and otherwise they are
+-- split twice.
 use Rattle.std.proofs.Common.{◌≡◌, ◌^◌, ◌+◌, ◌-◌, ◌≤◌, ◌<◌, ℕ, List, [], ◌∷◌, ◌++◌, refl, sym, ap, ◌∙◌, length, take, drop as drop_l, IfOk, IfErr, OnOk, Some, None, Err, Ok, Result, lit<, subst, arith}
 use Rattle.std.proofs.raw_atomic.Walks.{proved}
 use Rattle.std.proofs.lemmas.List.{length-take-le}

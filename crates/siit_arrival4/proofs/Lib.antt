@@ -1,0 +1,4 @@
+mod Routes
+mod Tables
+mod Joined
+mod Left

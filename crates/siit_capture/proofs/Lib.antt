@@ -1,0 +1,9 @@
+pub mod Places
+pub mod Numbers
+pub mod HeadFronts
+pub mod RecordFronts
+pub mod Turns
+pub mod Pieces
+pub mod ReadAgain
+pub mod Next
+pub mod History

@@ -1,0 +1,14 @@
+pub mod Fronts
+pub mod Heads
+pub mod Records
+pub mod Captures
+pub mod LinkPackets
+pub mod Told
+pub mod Queues
+pub mod Holding
+pub mod Readings
+pub mod Peeks
+pub mod Histories
+pub mod Written
+pub mod Laws
+pub mod Examples

@@ -1,0 +1,5 @@
+pub mod Entering
+pub mod Events
+pub mod Leaving
+pub mod ToyCuts
+pub mod Ways

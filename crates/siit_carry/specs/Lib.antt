@@ -1,0 +1,5 @@
+pub mod Captured
+pub mod Happenings
+pub mod Steps
+pub mod ToyLaws
+pub mod Toys

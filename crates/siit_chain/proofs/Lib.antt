@@ -1,0 +1,5 @@
+pub mod Crossed
+pub mod Decimals
+pub mod Grown
+pub mod Names
+pub mod Traces

@@ -1,0 +1,10 @@
+pub mod Carried
+pub mod Counted
+pub mod Crossing
+pub mod Examples
+pub mod Laws
+pub mod Log
+pub mod Outcome
+pub mod Outputs
+pub mod Texts
+pub mod Verdicts

@@ -1,0 +1,5 @@
+use Rattle.siit_checksum.proofs.Moves.{moved_between_keeps_residue}
+use Rattle.siit_checksum.proofs.laws.moved_between_keeps_residue.Goals as goal
+
+pub returns : goal.returns
+returns c = moved_between_keeps_residue

@@ -1,0 +1,5 @@
+pub mod Words
+pub mod Addresses
+pub mod Reading
+pub mod ConfigTexts
+pub mod Examples

@@ -1,0 +1,15 @@
+pub mod Rows
+pub mod Shapes
+pub mod Options
+pub mod Addresses
+pub mod Arrival4
+pub mod Arrival6
+pub mod Forward
+pub mod Backward
+pub mod Turned
+pub mod Rules4
+pub mod Rules6
+pub mod Answers
+pub mod Outcome
+pub mod Examples
+pub mod HairpinExamples

@@ -1,0 +1,9 @@
+pub mod Examples
+pub mod Faults
+pub mod Messages
+pub mod Names
+pub mod Rdata
+pub mod Reading
+pub mod Room
+pub mod Sections
+pub mod Seen

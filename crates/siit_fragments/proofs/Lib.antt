@@ -1,0 +1,11 @@
+pub mod Lists
+pub mod Parts
+pub mod Pieces
+pub mod Wholes
+pub mod Cutting
+pub mod Translated
+pub mod PlanFacts
+pub mod Written
+pub mod PieceIs
+pub mod Read
+pub mod Packets

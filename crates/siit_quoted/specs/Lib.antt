@@ -1,0 +1,9 @@
+pub mod Quoted
+pub mod Refusals
+pub mod Quotes
+pub mod Bodies
+pub mod Errors
+pub mod Rewriting
+pub mod Laws
+pub mod Sums
+pub mod Examples

@@ -1,0 +1,49 @@
+//! What the end of a quote counts in the checksum of the message (RFC 1624).
+ghost use Rattle.siit_model.specs.Checksum.{residue};
+ghost use Rattle.siit_quoted.specs.Sums.{CutLastDifference, CutQuoteDifference, MovedByBodyDifference, UpperBehindStays};
+ghost use Rattle.std.specs.Prelude.{◌≡◌, ◌≤◌, ◌-◌, ◌%◌, length, take, drop};
+
+use siit_checksum::sum_of;
+
+/// Residues of what goes and of what comes.
+#[derive(Clone, Copy, Debug, PartialEq, Eq)]
+pub struct Sums {
+    /// Of the bytes that are gone.
+    pub gone: u16,
+    /// Of the bytes that stand in their place.
+    pub come: u16,
+}
+
+/// What goes and comes where a quote, which begins at an even place of the message, is cut behind `kept` bytes: the
+/// bytes from there on, and of an odd end the last byte both ways. Zeros that follow count nothing.
+pub fn cut_sums(quote: &[u8], kept: usize) -> Sums
+    requires { kept ≤ length quote.now }
+    ensures gone { result.gone ≡ residue (drop (kept - kept % 2) quote.now) }
+    ensures come { result.come ≡ residue (drop (kept - kept % 2) (take kept quote.now)) }
+{
+    let even = kept - kept % 2;
+    Sums {
+        gone: sum_of(&quote[even..]),
+        come: sum_of(&quote[even..kept]),
+    }
+}
+
+/// These are the difference before an extension.
+pub fn cut_quote_difference()
+    ensures { CutQuoteDifference }
+{}
+
+/// These are the difference at the end of the message.
+pub fn cut_last_difference()
+    ensures { CutLastDifference }
+{}
+
+/// What a translated upper part changes stands in its first 18 bytes.
+pub fn upper_behind_stays()
+    ensures { UpperBehindStays }
+{}
+
+/// The checksum of a message is moved by what goes and what comes in its body (RFC 1624).
+pub fn moved_by_body_difference()
+    ensures { MovedByBodyDifference }
+{}

@@ -1,0 +1,13 @@
+use Rattle.std.proofs.Common.{◌==◌, ap, ◌∙◌, option_and_then}
+use Rattle.siit_addr.specs.Addresses.{is_clear_behind}
+use Rattle.siit_rfc6052.specs.Embedding.{is_embedding_length, is_embedding_prefix, byte_of}
+use Rattle.siit_config.specs.Texts.{only}
+use Rattle.siit_config.proofs.Prefixes.{accepted_by}
+use Rattle.siit_top.proofs.commands.dns64.read_embed.Goals as goal
+
+pub returns : goal.returns
+returns c =
+    let p = c.in_ok-prefix.prefix in
+    let judged = accepted_by p _ _ _ (is_embedding_length p.len) (is_clear_behind 128 p.len p.addr.0) (byte_of p.addr.0 8 == 0)
+    c.new.result c.new.ensures.refused c.new.ensures.accepted in
+    c.ok.ensures.value ∙ judged ∙ ap (option_and_then (only (λ p. is_embedding_prefix p.len p.addr.0))) c.in_ok-prefix.ensures

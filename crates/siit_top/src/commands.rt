@@ -1,0 +1,108 @@
+//! The commands: the words that each is, and what each does. A command has a file of its own.
+ghost use Rattle.std.specs.Prelude.{◌≡◌, map, option_map};
+ghost use Rattle.std.specs.String.{string_bytes};
+ghost use Rattle.siit_top.specs.Promises.{Promise};
+ghost use Rattle.siit_top.specs.Read.{command_read};
+ghost use Rattle.siit_top.specs.Runs.{run_of};
+ghost use Rattle.siit_top.specs.Words.{command_of};
+
+mod discover;
+mod dns64;
+mod ends;
+mod map;
+mod wkp;
+
+use crate::commands::discover::{discover, read_discover};
+use crate::commands::dns64::{dns64, given_name, read_dns64};
+use crate::commands::map::{map, read_map};
+use crate::commands::wkp::{read_wkp, wkp};
+use crate::status::Status;
+use siit_command::Address;
+use siit_rfc6052::Embed;
+use siit_word::{Files, Idents};
+use std::alloc::Global;
+
+/// What the words ask.
+#[derive(Clone, Copy)]
+pub(crate) enum Command<'a> {
+    /// Translate the capture `input` to `output`.
+    Wkp {
+        input: &'a String,
+        output: &'a String,
+    },
+    /// Map an address at a device of a configuration, the first being 1.
+    Map {
+        configuration: &'a String,
+        device: u64,
+        address: Address,
+    },
+    /// Find the prefixes that a DNS answer shows.
+    Discover {
+        answer: &'a String,
+    },
+    /// Answer a DNS query for AAAA records from the responses, under a prefix.
+    Dns64 {
+        prefix: Embed,
+        query: &'a str,
+        aaaa: &'a str,
+        a: &'a str,
+        output: &'a str,
+    },
+}
+
+/// The command that the words are, or none: its name, and the words of that command.
+pub(crate) fn read_command(words: &[String]) -> Option<Command<'_>>
+    ensures { option_map command_read result ≡ command_of (map string_bytes words.now) }
+{
+    let [name, words @ ..] = words else {
+        return None;
+    };
+    match name.as_str() {
+        "wkp" => read_wkp(words),
+        "map" => read_map(words),
+        "discover" => read_discover(words),
+        "dns64" => read_dns64(words),
+        _ => None,
+    }
+}
+
+/// Does what a command asks, and appends what is printed to `out`. No command takes an identification so far.
+pub(crate) fn run<F: Files, I: Idents>(
+    alloc: Global,
+    command: Command<'_>,
+    files: &mut F,
+    idents: &mut I,
+    out: &mut Vec<u8>,
+) -> Status
+    ensures { Promise (command_read command.entry)
+        (run_of (F.meaning files.old) (F.meaning files.new) (I.coming idents.old) (I.coming idents.new)
+        out.old.items out.new.items result) }
+{
+    match command {
+        Command::Wkp { input, output } => {
+            Status::from(wkp(alloc, files, input.as_str(), output.as_str(), out))
+        }
+        Command::Map {
+            configuration,
+            device,
+            address,
+        } => Status::from(map(alloc, files, configuration.as_str(), device, address, out)),
+        Command::Discover { answer } => Status::from(discover(alloc, files, answer.as_str(), out)),
+        Command::Dns64 {
+            prefix,
+            query,
+            aaaa,
+            a,
+            output,
+        } => Status::from(dns64(
+            alloc,
+            files,
+            prefix,
+            query,
+            aaaa,
+            given_name(a),
+            output,
+            out,
+        )),
+    }
+}
