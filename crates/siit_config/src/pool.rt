@@ -7,9 +7,9 @@ ghost use Rattle.siit_config.specs.Faults.{Gives, Tells};
 ghost use Rattle.siit_config.specs.Keys.{array_of, key};
 ghost use Rattle.siit_config.specs.Texts.{addresses4_of, pool_of};
 
+use crate::arrays;
 use crate::fault::ConfigFault;
 use crate::keys::Keys;
-use crate::arrays;
 use siit_addr::{Addr4, read_addr4};
 use siit_roles::Pool4;
 use std::alloc::{AllocError, Global};
