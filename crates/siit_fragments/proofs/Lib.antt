@@ -7,5 +7,4 @@ pub mod Translated
 pub mod PlanFacts
 pub mod Written
 pub mod PieceIs
-pub mod Read
 pub mod Packets

@@ -1,7 +1,8 @@
 -- Packets that are cut again.
-use Rattle.std.proofs.Common.{◌≡◌, ℕ, ◌+◌, ◌*◌, ◌^◌, ◌<◌, ◌≤◌, List, [], ◌∷◌, ◌++◌, length, drop, map, get_or, flat_map, All, false, Option, Some, None, ◌∙◌, ap, sym, subst, refl, inl, inr, ⊎_elim, arith}
+use Rattle.std.proofs.Common.{◌≡◌, ℕ, ◌+◌, ◌*◌, ◌^◌, ◌<◌, ◌≤◌, List, [], ◌∷◌, ◌++◌, length, drop, map, get_or, flat_map, All, Bool, true, false, ◌==◌, Option, Some, None, ◌∙◌, ap, sym, subst, refl, inl, inr, ⊎_elim, arith}
 use Rattle.std.proofs.lemmas.List.{map-append}
 use Rattle.std.proofs.lemmas.List.Elements.{All-cons, All-nil, All-head, All-tail}
+use Rattle.siit_model.specs.Bytes.{flag_bit}
 use Rattle.siit_model.specs.Extensions.{is_extension}
 use Rattle.siit_model.specs.Fragments.{Datagram, Fragment, datagram4, fragment4, packet4, fragment6, fragment_packet6, whole_of}
 use Rattle.siit_model.specs.Ipv4.{Ipv4Packet}
@@ -12,7 +13,7 @@ use Rattle.siit_fragments.specs.Laws.{IsCut, IsCut4, IsPieces6, IsCut6}
 use Rattle.siit_fragments.proofs.Lists.{All-flat_map, All-from_map}
 use Rattle.siit_fragments.proofs.Pieces.{All-pieces}
 use Rattle.siit_fragments.proofs.Cutting.{cut-covers}
-use Rattle.siit_fragments.proofs.Read.{fragment4-read, fragment6-read}
+use Rattle.siit_upper.proofs.Read.{fragment_is_read6}
 
 map-back : {X Y : Type 0} (there : X → Y) (back : Y → X) (xs : List X) → ((x : X) → back (there x) ≡ x) → map back (map there xs) ≡ xs
 map-back there back [] each = refl
@@ -21,6 +22,14 @@ map-back there back (x ∷ xs) each = ap (λ y. y ∷ map back (map there xs)) (
 map-flat_map : {X Y Z : Type 0} (f : Y → Z) (g : X → List Y) (xs : List X) → map f (flat_map g xs) ≡ flat_map (λ x. map f (g x)) xs
 map-flat_map f g [] = refl
 map-flat_map f g (x ∷ xs) = map-append f (g x) (flat_map g xs) ∙ ap (λ l. map f (g x) ++ l) (map-flat_map f g xs)
+
+-- the fragment that is read in an IPv4 packet that is made of it
+flag-read : (more : Bool) → (flag_bit more == 1) ≡ more
+flag-read true = refl
+flag-read false = refl
+
+fragment4-read : (df : ℕ) (f : Fragment) → fragment4 (packet4 df f) ≡ f
+fragment4-read df f = ap (λ more. record f { more = more }) (flag-read f.more)
 
 cut4 : (packet : Ipv4Packet) (pieces : List Ipv4Packet) → IsCut4 packet pieces → IsCut (fragment4 packet) (map fragment4 pieces)
 cut4 packet pieces is =
@@ -82,7 +91,7 @@ module _ (d : Datagram) (id : ℕ) (may : is_extension d.common.protocol ≡ fal
       → fragment6 (fragment_packet6 (piece_of blocks f k)) ≡ Some (piece_of blocks f k)
   piece-read blocks f k of small begins =
       let inside : 8 * f.offset + length f.bytes ≤ length d.payload = of.slice.inside in
-      fragment6-read (piece_of blocks f k) (omega arith) small (ap (λ c. is_extension c.protocol) of.shares ∙ may)
+      fragment_is_read6 (piece_of blocks f k) (omega arith) small (ap (λ c. is_extension c.protocol) of.shares ∙ may)
 
   pieces-read : (blocks : ℕ) (f : Fragment) → 0 < blocks → IsFragmentOf d id f → f.id < 2 ^ 32
       → All (λ g. fragment6 (fragment_packet6 g) ≡ Some g) (pieces_of blocks f)

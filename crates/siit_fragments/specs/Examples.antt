@@ -4,7 +4,7 @@ use Rattle.siit_model.specs.Bytes.{field16}
 use Rattle.siit_model.specs.Ipv4.{Ipv4Packet, ipv4_bytes, total_length4}
 use Rattle.siit_model.specs.Fragments.{Common, Fragment, fragment6, fragment_packet6}
 use Rattle.siit_fragments.specs.Pieces.{blocks_of, pieces_of, pieces4}
-use Rattle.siit_fragments.specs.Plans.{plan_of}
+use Rattle.siit_fragments.specs.Plans.{piece_bytes, plan_of}
 
 abbrev udp_from : Common
 udp_from = record { class = 0; hop = 63; protocol = 17; source = 1; destination = 2 }
@@ -33,6 +33,11 @@ long_packet = record {
 abbrev middle : Fragment
 middle = record { common = udp_from; id = 0x0102; offset = 200; more = true; bytes = replicate 200 7 }
 
+-- an IPv4 packet whose reserved bit is set (RFC 791 section 3.1), with a payload of 32 bytes
+abbrev odd_packet : List ℕ
+odd_packet =
+    0x45 ∷ 0x00 ∷ 0x00 ∷ 0x34 ∷ 0x12 ∷ 0x34 ∷ 0x80 ∷ 0x00 ∷ 0x40 ∷ 0x11 ∷ 0xd4 ∷ 0x82 ∷ 10 ∷ 0 ∷ 0 ∷ 1 ∷ 10 ∷ 0 ∷ 0 ∷ 2 ∷ replicate 32 7
+
 -- each piece's payload length and Fragment header, behind an IPv6 header
 abbrev heads6 : List Fragment → List (ℕ × List ℕ)
 heads6 pieces = map (λ f. (length (fragment_packet6 f).body, take 8 (fragment_packet6 f).body)) pieces
@@ -53,5 +58,10 @@ pub record PieceExamples : Type 0 where
   -- the pieces of a fragment that isn't the last all have more behind them
   pub more : map (λ f. f.more) (pieces_of 12 middle) ≡ true ∷ true ∷ true ∷ []
   pub offsets : map (λ f. f.offset) (pieces_of 12 middle) ≡ 200 ∷ 212 ∷ 224 ∷ []
+  -- the reserved bit stays in each piece
+  pub first : piece_bytes (plan_of 52 20 36) odd_packet 0
+      ≡ 0x45 ∷ 0x00 ∷ 0x00 ∷ 0x24 ∷ 0x12 ∷ 0x34 ∷ 0xa0 ∷ 0x00 ∷ 0x40 ∷ 0x11 ∷ 0xb4 ∷ 0x92 ∷ 10 ∷ 0 ∷ 0 ∷ 1 ∷ 10 ∷ 0 ∷ 0 ∷ 2 ∷ replicate 16 7
+  pub second : piece_bytes (plan_of 52 20 36) odd_packet 1
+      ≡ 0x45 ∷ 0x00 ∷ 0x00 ∷ 0x24 ∷ 0x12 ∷ 0x34 ∷ 0x80 ∷ 0x02 ∷ 0x40 ∷ 0x11 ∷ 0xd4 ∷ 0x90 ∷ 10 ∷ 0 ∷ 0 ∷ 1 ∷ 10 ∷ 0 ∷ 0 ∷ 2 ∷ replicate 16 7
   -- a fragment is read in the packet that is made of it
   pub read : fragment6 (fragment_packet6 middle) ≡ Some middle

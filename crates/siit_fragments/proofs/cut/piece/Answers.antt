@@ -3,7 +3,7 @@ use Rattle.std.proofs.lemmas.List.{length-take-le}
 use Rattle.siit_model.specs.Bytes.{field16}
 use Rattle.siit_views.specs.Contents.{Contents}
 use Rattle.siit_fragments.specs.Fronts.{word_on, fragment_word_on, fronted4, fronted6}
-use Rattle.siit_fragments.specs.Plans.{offset_in, IsPiece}
+use Rattle.siit_fragments.specs.Plans.{offset_in, IsPiece, IsPlanFor}
 use Rattle.siit_views.proofs.Places.{rewritten-same}
 use Rattle.siit_fragments.proofs.PieceIs.{piece4-is, piece6-is, header-six, offset6}
 use Rattle.siit_fragments.proofs.cut.piece.Goals as goal
@@ -35,7 +35,7 @@ returns-then-plan-eq20-clause-bytes c =
     let new : c.front4.new.piece ≡ fronted4 (take 20 bytes) (length loaded) (word_on (field16 (take 20 bytes) 6) place.blocks place.last) (drop 20 loaded) =
     c.front4.ensures ∙ ap (λ l. fronted4 (take 20 bytes) (length l) (word_on (field16 (take 20 bytes) 6) place.blocks place.last) (drop 20 l)) lent in
     let is : IsPiece c.args.plan.now bytes c.args.k c.front4.new.piece =
-    piece4-is c.args.plan.now place c.args.k bytes loaded c.front4.new.piece c.place_of-place.ensures c.if-plan-eq20.true (ap (λ (v : Contents). v.bytes) c.load.ensures) new in
+    piece4-is c.args.plan.now place c.args.k bytes loaded c.front4.new.piece (subst (λ w. IsPlanFor (length w) c.args.plan.now) (sym c.bytes-bytes.ensures.value) c.requires.planned) c.requires.below c.place_of-place.ensures c.if-plan-eq20.true (ap (λ (v : Contents). v.bytes) c.load.ensures) new in
     subst (λ l. IsPiece c.args.plan.now c.args.whole.now.bytes c.args.k l) (sym (rewritten-same loaded c.front4.new.piece (c.front4.auto.piece ∙ ap length lent)))
     (subst (λ w. IsPiece c.args.plan.now w c.args.k c.front4.new.piece) c.bytes-bytes.ensures.value is)
 
@@ -49,6 +49,6 @@ returns-else-plan-eq20-clause-bytes c =
     let new : c.front6.new.piece ≡ fronted6 (take 48 bytes) (length loaded - 40) (fragment_word_on (field16 (take 48 bytes) 42) place.blocks place.last) (drop 48 loaded) =
     c.front6.ensures ∙ ap (λ l. fronted6 (take 48 bytes) (length l - 40) (fragment_word_on (field16 (take 48 bytes) 42) place.blocks place.last) (drop 48 l)) lent in
     let is : IsPiece c.args.plan.now bytes c.args.k c.front6.new.piece =
-    piece6-is c.args.plan.now place c.args.k bytes loaded c.front6.new.piece c.place_of-place.ensures six (ap (λ (v : Contents). v.bytes) c.load.ensures) new in
+    piece6-is c.args.plan.now place c.args.k bytes loaded c.front6.new.piece (subst (λ w. IsPlanFor (length w) c.args.plan.now) (sym c.bytes-bytes.ensures.value) c.requires.planned) c.requires.below c.place_of-place.ensures six (ap (λ (v : Contents). v.bytes) c.load.ensures) new in
     subst (λ l. IsPiece c.args.plan.now c.args.whole.now.bytes c.args.k l) (sym (rewritten-same loaded c.front6.new.piece (c.front6.auto.piece ∙ ap length lent)))
     (subst (λ w. IsPiece c.args.plan.now w c.args.k c.front6.new.piece) c.bytes-bytes.ensures.value is)
