@@ -13,6 +13,7 @@ use Rattle.siit_v6to4.specs.To4.{walk_in}
 use Rattle.siit_quoted.specs.Quoted.{HasQuote6, quoted6_fields, quoted_fragment6}
 use Rattle.siit_quoted.specs.Refusals.{is_nested6, is_untranslated6, quote_refusal6, refusal_by_walk6, walked_refusal6}
 use Rattle.siit_quoted.proofs.Quotes46.{payload-here}
+use Rattle.siit_quoted.proofs.Walks6.{walk-units}
 
 pub record Accepted6 (quote : List ℕ) : Type 0 where
   pub walked : Walked
@@ -103,6 +104,7 @@ has-quote w quote accepted walk within =
     record {
       version = acc.version;
       header = omega (arith, within, size, acc.long);
+      units = walk-units (ipv6_fields quote).next (ipv6_fields quote).body w walk;
       ordered = omega (arith, within, size);
       fits = subst (λ (v : Walked). 20 + (payload_length_in quote - v.at) ≤ 65535) (sym is) acc.fits;
     }

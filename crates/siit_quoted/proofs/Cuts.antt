@@ -6,11 +6,12 @@ use Rattle.std.proofs.lemmas.Bool.Decides.{nat_tests}
 use Rattle.siit_model.specs.Bytes.{field8, field16, with_field16}
 use Rattle.siit_model.specs.Checksum.{moved, moved_udp}
 use Rattle.siit_model.specs.Upper.{Ends, has_field16}
-use Rattle.siit_upper.specs.Moves.{echo_moved, tcp_moved, udp_moved}
+use Rattle.siit_upper.specs.Moves.{echo_moved, icmp_moved, tcp_moved, udp_moved}
 use Rattle.siit_checksum.proofs.Fields.{length-set_first}
 use Rattle.siit_icmp.specs.Icmp.{echo_kind4, echo_kind6}
 use Rattle.siit_v4to6.specs.To6.{echo_to_6, is_echo4, upper_to_6}
 use Rattle.siit_v6to4.specs.To4.{echo_to_4, is_echo6, upper_to_4}
+use Rattle.siit_v6to4.specs.Turns.{turned_upper}
 use Rattle.siit_quoted.proofs.Words.{field16-take, has_field16-take, with_field16-take}
 
 -- a choice whose parts commute with a cut
@@ -97,3 +98,20 @@ upper_to_6-take protocol ends whole k part enough =
     (λ (_ : (protocol == 17) ≡ false).
     chosen-take k (protocol == 1) (protocol == 1) _ _ _ part refl (λ (_ : (protocol == 1) ≡ true). echo_to_6-take _ k part enough)
     (λ (_ : (protocol == 1) ≡ false). refl)))
+
+-- the same of a turned one
+icmp_moved-take : (old new k : ℕ) (part : List ℕ) → 18 ≤ k → icmp_moved old new (take k part) ≡ take k (icmp_moved old new part)
+icmp_moved-take old new k part enough =
+    chosen-take k (has_field16 part 2) (has_field16 (take k part) 2) _ (take k part) _ part (has_field16-take part 2 k (omega arith))
+    (λ (has : has_field16 part 2 ≡ true).
+    ap (λ n. with_field16 (take k part) 2 (moved n old new)) (field16-take part 2 k (omega arith)) ∙ with_field16-take part 2 (moved (field16 part 2) old new) k (omega arith) (ltb-true 3 (length part) has))
+    (λ (_ : has_field16 part 2 ≡ false). refl)
+
+pub turned_upper-take : (protocol old new k : ℕ) (part : List ℕ) → 18 ≤ k → turned_upper protocol old new (take k part) ≡ take k (turned_upper protocol old new part)
+turned_upper-take protocol old new k part enough =
+    chosen-take k (protocol == 6) (protocol == 6) _ _ _ _ refl (λ (_ : (protocol == 6) ≡ true). tcp_moved-take old new k part enough)
+    (λ (_ : (protocol == 6) ≡ false).
+    chosen-take k (protocol == 17) (protocol == 17) _ _ _ _ refl (λ (_ : (protocol == 17) ≡ true). udp_moved-take old new k part enough)
+    (λ (_ : (protocol == 17) ≡ false).
+    chosen-take k (protocol == 58) (protocol == 58) _ _ _ part refl (λ (_ : (protocol == 58) ≡ true). icmp_moved-take old new k part enough)
+    (λ (_ : (protocol == 58) ≡ false). refl)))

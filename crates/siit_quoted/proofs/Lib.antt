@@ -17,3 +17,6 @@ pub mod Differences
 pub mod Behind
 pub mod PartSums
 pub mod QuoteSums46
+pub mod Fronts
+pub mod QuoteSums64
+pub mod QuoteSumsTurned

@@ -1,8 +1,7 @@
 -- What goes and comes where a part of a body is rewritten.
-use Rattle.std.proofs.Common.{◌≡◌, ℕ, ◌+◌, ◌-◌, ◌%◌, ◌≤◌, List, [], ◌++◌, length, take, replicate, sym, subst, refl, arith, append_assoc, length-append}
+use Rattle.std.proofs.Common.{◌≡◌, ℕ, ◌+◌, ◌-◌, ◌%◌, ◌≤◌, List, [], ◌++◌, length, take, drop, replicate, sym, subst, refl, arith, append_assoc, length-append}
 use Rattle.std.proofs.lemmas.List.{length-take-le}
 use Rattle.siit_model.specs.Checksum.{residue}
-use Rattle.std.proofs.Common.{drop}
 use Rattle.siit_quoted.specs.Sums.{IsDifference, IsPartDifference}
 use Rattle.siit_quoted.proofs.Differences.{before, behind, ended, ended-at, ended-last, in-turn}
 
@@ -20,25 +19,47 @@ residues-are old new gone come g c is_gone is_come difference = record {
   before = λ rest n even_old even_new. record { same = omega (arith, (difference.before rest n even_old even_new).same, is_gone, is_come) };
 }
 
--- Another front of an even length, and k bytes kept of the rest: the sums of the rest begin at the even place at or
--- before the cut.
+-- k bytes kept: the sums begin at the even place at or before the cut
+cut-difference : (rest : List ℕ) (k : ℕ) → k ≤ length rest
+    → IsPartDifference rest (take k rest) (residue (drop (k - k % 2) rest)) (residue (drop (k - k % 2) (take k rest)))
+cut-difference rest k inside = record {
+  last = ended-last rest k (k - k % 2) refl inside;
+  before = λ behind_it n even_old even_new. ended-at rest behind_it k (k - k % 2) n refl inside even_old (omega (arith, even_new, length-take-le k rest inside));
+}
+
+-- behind an even number of bytes that stay
+pub staying : (front old new : List ℕ) (gone come : ℕ) → length front % 2 ≡ 0 → IsPartDifference old new gone come → IsPartDifference (front ++ old) (front ++ new) gone come
+staying front old new gone come even difference = record {
+  last = behind front old new gone come even difference.last;
+  before = λ rest n even_old even_new.
+      let zeros : List ℕ = replicate n 0 in
+      let old_is : front ++ (old ++ rest) ≡ (front ++ old) ++ rest = sym (append_assoc front old rest) in
+      let new_is : front ++ ((new ++ zeros) ++ rest) ≡ ((front ++ new) ++ zeros) ++ rest = simp append_assoc in
+      subst (λ l. IsDifference l (((front ++ new) ++ zeros) ++ rest) gone come) old_is
+      (subst (λ l. IsDifference (front ++ (old ++ rest)) l gone come) new_is
+      (behind front (old ++ rest) ((new ++ zeros) ++ rest) gone come even
+      (difference.before rest n (omega (arith, even, even_old, length-append front old)) (omega (arith, even, even_new, length-append front new)))));
+}
+
+-- behind another front of an even length
+pub headed : (front other old new : List ℕ) (gone come : ℕ) → length front % 2 ≡ 0 → length other % 2 ≡ 0 → IsPartDifference old new gone come
+    → IsPartDifference (front ++ old) (other ++ new) (residue front + gone) (residue other + come)
+headed front other old new gone come even_front even_other difference = record {
+  last = in-turn (front ++ old) (other ++ old) (other ++ new) (residue front) (residue other) gone come (before front other old even_front even_other)
+      (behind other old new gone come even_other difference.last);
+  before = λ rest n even_old even_new.
+      let zeros : List ℕ = replicate n 0 in
+      let old_is : front ++ (old ++ rest) ≡ (front ++ old) ++ rest = sym (append_assoc front old rest) in
+      let new_is : other ++ ((new ++ zeros) ++ rest) ≡ ((other ++ new) ++ zeros) ++ rest = simp append_assoc in
+      subst (λ l. IsDifference l (((other ++ new) ++ zeros) ++ rest) (residue front + gone) (residue other + come)) old_is
+      (subst (λ l. IsDifference (front ++ (old ++ rest)) l (residue front + gone) (residue other + come)) new_is
+      (in-turn (front ++ (old ++ rest)) (other ++ (old ++ rest)) (other ++ ((new ++ zeros) ++ rest)) (residue front) (residue other) gone come
+      (before front other (old ++ rest) even_front even_other)
+      (behind other (old ++ rest) ((new ++ zeros) ++ rest) gone come even_other
+      (difference.before rest n (omega (arith, even_front, even_old, length-append front old)) (omega (arith, even_other, even_new, length-append other new))))));
+}
+
+-- another front of an even length, and k bytes kept of the rest
 pub fronts-difference : (front other rest : List ℕ) (k : ℕ) → length front % 2 ≡ 0 → length other % 2 ≡ 0 → k ≤ length rest
     → IsPartDifference (front ++ rest) (other ++ take k rest) (residue front + residue (drop (k - k % 2) rest)) (residue other + residue (drop (k - k % 2) (take k rest)))
-fronts-difference front other rest k even_front even_other inside =
-    let e : ℕ = k - k % 2 in
-    let g : ℕ = residue (drop e rest) in
-    let c : ℕ = residue (drop e (take k rest)) in
-    record {
-      last = in-turn (front ++ rest) (other ++ rest) (other ++ take k rest) (residue front) (residue other) g c (before front other rest even_front even_other)
-          (behind other rest (take k rest) g c even_other (ended-last rest k e refl inside));
-      before = λ behind_it n even_old even_new.
-          let old_is : (front ++ rest) ++ behind_it ≡ front ++ (rest ++ behind_it) = append_assoc front rest behind_it in
-          let new_is : ((other ++ take k rest) ++ replicate n 0) ++ behind_it ≡ other ++ ((take k rest ++ replicate n 0) ++ behind_it) = simp append_assoc in
-          let size = length-take-le k rest inside in
-          subst (λ l. IsDifference l (((other ++ take k rest) ++ replicate n 0) ++ behind_it) (residue front + g) (residue other + c)) (sym old_is)
-          (subst (λ l. IsDifference (front ++ (rest ++ behind_it)) l (residue front + g) (residue other + c)) (sym new_is)
-          (in-turn (front ++ (rest ++ behind_it)) (other ++ (rest ++ behind_it)) (other ++ ((take k rest ++ replicate n 0) ++ behind_it)) (residue front) (residue other) g c
-          (before front other (rest ++ behind_it) even_front even_other)
-          (behind other (rest ++ behind_it) ((take k rest ++ replicate n 0) ++ behind_it) g c even_other
-          (ended-at rest behind_it k e n refl inside (omega (arith, length-append front rest, even_old, even_front)) (omega (arith, length-append other (take k rest), size, even_new, even_other))))));
-    }
+fronts-difference front other rest k even_front even_other inside = headed front other rest (take k rest) _ _ even_front even_other (cut-difference rest k inside)

@@ -119,6 +119,23 @@ turned-is source destination walked quote between after small good is_between is
     ∙ ap (λ l. before len packet ++ bytes128 source ++ bytes128 destination ++ l) (last ∙ sym (append_assoc (take walked.at packet.body) upper behind))
     ∙ ap (λ n. before n packet ++ bytes128 source ++ bytes128 destination ++ ((take walked.at packet.body ++ upper) ++ behind)) sum
 
+-- a turned quote is what stays of it, its new addresses and its upper part
+pub turned-parts : (source destination : ℕ) (walked : Walked) (quote : List ℕ) → AreBytes quote → HasQuote6 walked quote
+    → quote_turned source destination (quoted6_fields walked quote)
+    ≡ take 8 quote ++ ((bytes128 source ++ bytes128 destination) ++ (take walked.at (drop 40 quote) ++ quoted_upper_turned source destination (quoted6_fields walked quote)))
+unfolding quote_turned
+turned-parts source destination walked quote small good =
+    let packet : Ipv6Packet = ipv6_fields quote in
+    let len : ℕ = payload_length_in quote in
+    let upper : List ℕ = quoted_upper_turned source destination (quoted6_fields walked quote) in
+    let addresses : List ℕ = bytes128 source ++ bytes128 destination in
+    let first : take 8 quote ≡ before len packet = before-is quote small good.version (omega (arith, good.header)) in
+    let sum : len ≡ walked.at + (len - walked.at) = omega (arith, good.ordered) in
+    let body : take walked.at (drop 40 quote) ≡ take walked.at packet.body = sym (take-take walked.at len (drop 40 quote) good.ordered) in
+    sym (ap (λ l. l ++ (addresses ++ (take walked.at (drop 40 quote) ++ upper))) first
+    ∙ ap (λ n. before n packet ++ (addresses ++ (take walked.at (drop 40 quote) ++ upper))) sum
+    ∙ ap (λ l. before (walked.at + (len - walked.at)) packet ++ (addresses ++ (l ++ upper))) body)
+
 -- a turned quote is as long as the quoted packet is there
 pub turned-length : (source destination : ℕ) (walked : Walked) (quote : List ℕ) → HasQuote6 walked quote
     → length (quote_turned source destination (quoted6_fields walked quote)) ≡ min (length quote) (40 + payload_length_in quote)

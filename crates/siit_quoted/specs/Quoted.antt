@@ -1,6 +1,6 @@
 -- A packet that an ICMP error quotes: its header, and as much behind it as the sender of the error gave (RFC 792, RFC
 -- 4443 section 3).
-use Rattle.std.specs.Prelude.{◌≡◌, ℕ, ◌+◌, ◌-◌, ◌≤◌, List, length}
+use Rattle.std.specs.Prelude.{◌≡◌, ℕ, ◌+◌, ◌-◌, ◌%◌, ◌≤◌, List, length}
 use Rattle.siit_model.specs.Extensions.{Walked}
 use Rattle.siit_model.specs.Fragments.{Fragment, fragment4, fragment_by}
 use Rattle.siit_model.specs.Ipv4.{Ipv4Packet, version_in, header_length_in, total_length_in, ipv4_fields}
@@ -42,5 +42,6 @@ pub record HasQuote4 (part : List ℕ) : Type 0 where
 pub record HasQuote6 (walked : Walked) (part : List ℕ) : Type 0 where
   pub version : version6_in part ≡ 6
   pub header : 40 + walked.at ≤ length part
+  pub units : walked.at % 8 ≡ 0
   pub ordered : walked.at ≤ payload_length_in part
   pub fits : 20 + (payload_length_in part - walked.at) ≤ 65535

@@ -56,6 +56,12 @@ quoted_upper_to_4 source destination quoted =
     let f = quoted_fragment6 quoted in
     bytes_to_4 (ends_to_4 (quote_head4 source destination false quoted) f.common) quoted.sent f
 
+-- these bytes in place of those that are there
+abbrev pub front_to_4 : (source destination : ℕ) → List ℕ → QuotedIpv6 → List ℕ
+front_to_4 source destination bytes quoted =
+    let f = quoted_fragment6 quoted in
+    bytes_to_4 (ends_to_4 (quote_head4 source destination false quoted) f.common) quoted.sent (record f { bytes = bytes })
+
 -- TURNED
 
 -- what follows the headers and the extension headers, as far as it is there
@@ -64,6 +70,13 @@ quoted_upper_turned source destination quoted =
     let f = quoted_fragment6 quoted in
     turned_part (pseudo6 f.common.source f.common.destination f.common.protocol quoted.sent)
     (pseudo6 source destination f.common.protocol quoted.sent) quoted.walked f.bytes
+
+-- these bytes in place of those that are there
+abbrev pub front_turned : (source destination : ℕ) → List ℕ → QuotedIpv6 → List ℕ
+front_turned source destination bytes quoted =
+    let f = quoted_fragment6 quoted in
+    turned_part (pseudo6 f.common.source f.common.destination f.common.protocol quoted.sent)
+    (pseudo6 source destination f.common.protocol quoted.sent) quoted.walked bytes
 
 -- THE BODY
 

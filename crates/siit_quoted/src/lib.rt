@@ -11,6 +11,8 @@ mod multipart;
 mod part;
 mod sums;
 mod sums46;
+mod sums64;
+mod sums_turned;
 mod to_ipv4;
 mod to_ipv6;
 mod turned;
@@ -26,7 +28,9 @@ pub use sums::{
     Sums, cut_last_difference, cut_quote_difference, cut_sums, moved_by_body_difference,
     upper_behind_stays,
 };
+pub use sums_turned::quote_sums_turned;
 pub use sums46::quote_sums46;
+pub use sums64::quote_sums64;
 pub use to_ipv4::{quote64, quote64_by};
 pub use to_ipv6::quote46;
 pub use turned::{quote_turn, quote_turn_by};

@@ -1,7 +1,7 @@
 //! What the end of a quote counts in the checksum of the message (RFC 1624).
 ghost use Rattle.siit_model.specs.Checksum.{residue};
-ghost use Rattle.siit_quoted.specs.Sums.{CutLastDifference, CutQuoteDifference, MovedByBodyDifference, UpperBehindStays};
-ghost use Rattle.std.specs.Prelude.{◌≡◌, ◌≤◌, ◌-◌, ◌%◌, length, take, drop};
+ghost use Rattle.siit_quoted.specs.Sums.{CutLastDifference, CutQuoteDifference, IsPartDifference, MovedByBodyDifference, UpperBehindStays};
+ghost use Rattle.std.specs.Prelude.{◌≡◌, ◌≤◌, ◌+◌, ◌-◌, ◌%◌, ◌++◌, length, min, take, drop};
 
 use siit_checksum::sum_of;
 
@@ -26,6 +26,36 @@ pub fn cut_sums(quote: &[u8], kept: usize) -> Sums
         gone: sum_of(&quote[even..]),
         come: sum_of(&quote[even..kept]),
     }
+}
+
+/// How many bytes of an upper part are looked at: all that a translation changes stands in them.
+pub(crate) const CHANGED: usize = 20;
+
+/// What goes and comes in an upper part, which begins at an even place of the message, where its first bytes become
+/// those of `front` and it ends behind `kept` bytes.
+pub(crate) fn upper_sums(upper: &[u8], kept: usize, front: &[u8]) -> Sums
+    requires kept { kept ≤ length upper.now }
+    requires front { length front.now ≡ min kept 20 }
+    ensures { IsPartDifference upper.now (front.now ++ take (kept - 20) (drop 20 upper.now)) result.gone result.come }
+{
+    if kept < CHANGED {
+        return Sums {
+            gone: sum_of(upper),
+            come: sum_of(front),
+        };
+    }
+    let tail = cut_sums(&upper[CHANGED..], kept - CHANGED);
+    Sums {
+        gone: sum_both(sum_of(&upper[..CHANGED]), tail.gone),
+        come: sum_both(sum_of(front), tail.come),
+    }
+}
+
+/// The residue of two residues.
+pub(crate) fn sum_both(one: u16, other: u16) -> u16
+    ensures value { result ≡ (one + other) % 65535 }
+{
+    ((u32::from(one) + u32::from(other)) % 65535) as u16
 }
 
 /// These are the difference before an extension.

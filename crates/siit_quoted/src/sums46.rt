@@ -7,15 +7,12 @@ ghost use Rattle.siit_quoted.specs.Rewriting.{IsCarriedTo6, cut_to_6, front_of, 
 ghost use Rattle.siit_quoted.specs.Sums.{IsDifference, IsPartDifference};
 ghost use Rattle.std.specs.Prelude.{◌≡◌, ◌<◌, ◌≤◌, ◌+◌, ◌%◌, length, take, None, IfSome};
 
-use crate::sums::{Sums, cut_sums};
+use crate::sums::{CHANGED, Sums, cut_sums, sum_both};
 use crate::to_ipv6::{MOST, planned};
 use siit_addr::{Addresses4, Addresses6};
 use siit_checksum::sum_of;
 use siit_v4to6::upper46;
 use siit_views::Ipv4Header;
-
-/// How many bytes of an upper part are looked at: all that a translation changes stands in them.
-const CHANGED: usize = 20;
 
 /// The residues of what goes and of what comes where `quote46` makes this body of an ICMPv4 error the body of an ICMPv6
 /// error. Of the quote its header, the first 20 bytes behind it and what is cut off are read, and nothing of what
@@ -103,11 +100,4 @@ fn copy_front(front: &mut [u8], n: usize, quote: &[u8])
     let from = Ipv4Header::new(quote).header_len();
     let end = from + n;
     front.copy_from_slice(&quote[from..end]);
-}
-
-/// The residue of two residues.
-fn sum_both(one: u16, other: u16) -> u16
-    ensures value { result ≡ (one + other) % 65535 }
-{
-    ((u32::from(one) + u32::from(other)) % 65535) as u16
 }

@@ -17,10 +17,10 @@ use siit_v6to4::upper64;
 use siit_views::{Ipv6Header, PacketBuf, ipv4_header, remove_within, replace_within};
 
 /// The most bytes of a quote before an extension in an ICMPv4 error (RFC 4884): 255 units of 4 bytes.
-const MOST: usize = 1020;
+pub(crate) const MOST: usize = 1020;
 
 /// More bytes than a quote in an ICMPv4 error has.
-const ALL: usize = 65_575;
+pub(crate) const ALL: usize = 65_575;
 
 /// Makes the body of an ICMPv6 error that stands from `at` on the body of the ICMPv4 error, where it lies (RFC 7915
 /// section 5.3, RFC 4884): the quote translated, and behind it, with zeros between, the extension that stands `ext`
@@ -100,17 +100,23 @@ fn quote_extended(
 
 /// What becomes of a quote.
 #[derive(Clone, Copy, Debug, PartialEq, Eq)]
-struct Plan64 {
+pub(crate) struct Plan64 {
     /// The length of the old header and its extension headers.
-    header_len: usize,
+    pub header_len: usize,
     /// How many bytes of the upper part are kept.
-    kept: usize,
+    pub kept: usize,
     /// The new header.
-    written: [u8; 20],
+    pub written: [u8; 20],
 }
 
 /// The plan for the quote in these bytes, of which at most `limit` bytes are kept.
-fn planned(quote: &[u8], walk: Walk, limit: usize, new: Addresses4, tos_zero: bool) -> Plan64
+pub(crate) fn planned(
+    quote: &[u8],
+    walk: Walk,
+    limit: usize,
+    new: Addresses4,
+    tos_zero: bool,
+) -> Plan64
     requires quote { HasQuote6 (walked walk) quote.now }
     requires offset { IfSome walk.frag (λ f. f.offset < 8192) }
     requires limit { 20 ≤ limit }

@@ -104,7 +104,7 @@ fn rewrite_turned(buf: &mut PacketBuf, at: usize, end: usize, walk: Walk, new: A
 }
 
 /// How many bytes of a part are the quoted packet.
-fn quote_len(quote: &[u8]) -> usize
+pub(crate) fn quote_len(quote: &[u8]) -> usize
     requires { 40 ≤ length quote.now }
     ensures { result ≡ min (length quote.now) (40 + payload_length_in quote.now) }
 {
@@ -138,7 +138,7 @@ fn turn_in(quote: &mut [u8], walk: Walk, new: Addresses6)
 }
 
 /// What is known of a slice of bytes: each is below 256.
-fn are_bytes(bytes: &[u8])
+pub(crate) fn are_bytes(bytes: &[u8])
     ensures { AreBytes bytes.now }
 {}
 
@@ -171,7 +171,7 @@ fn upper_in(quote: &mut [u8], walk: Walk, new: Addresses6)
 }
 
 /// Writes the addresses of an IPv6 header.
-fn write_addresses(bytes: &mut [u8], new: Addresses6)
+pub(crate) fn write_addresses(bytes: &mut [u8], new: Addresses6)
     requires { 40 ≤ length bytes.old }
     ensures { bytes.new ≡ take 8 bytes.old ++ bytes128 new.src.0 ++ bytes128 new.dst.0 ++ drop 40 bytes.old }
 {

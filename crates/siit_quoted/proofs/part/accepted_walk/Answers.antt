@@ -1,11 +1,10 @@
-use Rattle.std.proofs.Common.{◌≡◌, ℕ, ◌+◌, ◌-◌, ◌≤◌, List, length, min, take, drop, Ok, ◌∙◌, ap, sym, subst, arith, length-drop}
-use Rattle.std.proofs.lemmas.List.{length-take}
-use Rattle.siit_model.specs.Extensions.{Walked, walk_of}
+use Rattle.std.proofs.Common.{◌≡◌, ℕ, ◌+◌, ◌-◌, ◌≤◌, List, length, min, take, drop, Ok, ◌∙◌, ap, sym, subst}
+use Rattle.siit_model.specs.Extensions.{walk_of}
 use Rattle.siit_model.specs.Ipv6.{ipv6_fields, payload_length_in}
 use Rattle.siit_upper.specs.Walks.{walked}
 use Rattle.siit_upper.specs.declared.walk.Walk.{Walk}
 use Rattle.siit_v6to4.specs.To4.{walk_in}
-use Rattle.siit_quoted.proofs.Accepted6.{Accepted6, accepted6, body-here, from-ok, is-ok, same-walk}
+use Rattle.siit_quoted.proofs.Accepted6.{Accepted6, accepted6, body-here, from-ok, has-quote, is-ok}
 use Rattle.siit_quoted.proofs.part.accepted_walk.Goals as goal
 
 pub unwrap-requires : goal.unwrap-requires
@@ -37,17 +36,9 @@ returns-clause-quote c =
     let same : c.new-header.result ≡ quote = c.new-header.ensures in
     let end : c.min-end.result ≡ min (length quote) (40 + payload_length_in quote) =
     c.min-end.ensures ∙ ap (λ n. min (length quote) (40 + n)) (c.from.ensures ∙ c.length.ensures ∙ ap payload_length_in same) in
-    let acc : Accepted6 quote = accepted6 quote c.requires in
     let there : walk_of c.next.result (take (c.min-end.result - 40) (drop 40 quote)) ≡ walk_in quote =
     ap (λ n. walk_of n (take (c.min-end.result - 40) (drop 40 quote))) (c.next.ensures ∙ ap (λ b. (ipv6_fields b).next) same)
     ∙ ap (walk_of (ipv6_fields quote).next) (body-here quote c.min-end.result end) in
     let walk : walk_in quote ≡ Ok (walked c.unwrap.result) = sym there ∙ from-ok (λ (x : Walk). walk_of c.next.result (take (c.min-end.result - 40) (drop 40 quote)) ≡ Ok (walked x)) c.walk_ext.result c.unwrap.result c.unwrap.ensures c.walk_ext.ensures.walk in
     let within = from-ok (λ (x : Walk). x.at ≤ length (take (c.min-end.result - 40) (drop 40 quote))) c.walk_ext.result c.unwrap.result c.unwrap.ensures c.walk_ext.ensures.within in
-    let is : walked c.unwrap.result ≡ acc.walked = same-walk (walked c.unwrap.result) acc.walked (walk_in quote) walk acc.walk in
-    let size = length-take (c.min-end.result - 40) (drop 40 quote) ∙ ap (λ n. min (c.min-end.result - 40) n) (length-drop 40 quote) in
-    record {
-      version = acc.version;
-      header = omega (arith, within, size, end, acc.long);
-      ordered = omega (arith, within, size, end, acc.long);
-      fits = subst (λ (w : Walked). 20 + (payload_length_in quote - w.at) ≤ 65535) (sym is) acc.fits;
-    }
+    has-quote (walked c.unwrap.result) quote c.requires walk (subst (λ (l : List ℕ). c.unwrap.result.at ≤ length l) (body-here quote c.min-end.result end) within)
