@@ -8,10 +8,7 @@ TOP = Path(__file__).resolve().parent.parent
 LIMIT = 120
 AT_TOP = {'README.md', 'HANDLES', 'crates.txt', 'siit', '.gitignore', '.gitattributes', '.ci', 'docs', 'examples', 'crates', '.git'}
 # Words that stand in two crates and are still to be told apart.
-TWICE = {
-    'Ends', 'IsRefusal', 'back', 'fresh', 'added', 'chain_of', 'entries_of', 'ends_between', 'error4', 'error6', 'message_of',
-    'is_output', 'run_of', 'end_line',
-}
+TWICE = {'ends_between', 'error4', 'error6'}
 NAME = r"[A-Za-z_][\w'◌-]*"
 faults = []
 

@@ -1,12 +1,12 @@
 -- What a reader may have gone through, and what it has then given.
 use Rattle.std.specs.Prelude.{◌≡◌, ℕ, List, [], ◌∷◌, ◌++◌}
 use Rattle.siit_capture.specs.Captures.{list_of, one_more, records_of, trouble_of}
-use Rattle.siit_capture.specs.Readings.{Reading, WaitsForBytes, fresh, records_fed, records_to_come, with_piece, with_record, without_record}
+use Rattle.siit_capture.specs.Readings.{Reading, WaitsForBytes, nothing_fed, records_fed, records_to_come, with_piece, with_record, without_record}
 use Rattle.siit_capture.specs.Records.{Record}
 
 -- A reader was fed these bytes, in any pieces, has given these records, and is this now.
 pub data HasRead : (bytes : List ℕ) → (given : List Record) → Reading → Type 0 where
-  new : HasRead [] [] fresh
+  new : HasRead [] [] nothing_fed
   feed : (bytes piece : List ℕ) (given : List Record) (reading : Reading) → HasRead bytes given reading
       → HasRead (bytes ++ piece) given (with_piece reading piece)
   -- a record was next in what was fed

@@ -22,8 +22,8 @@ pub record Reading : Type 0 where
   pub rest : List ℕ
 
 -- nothing was fed
-abbrev pub fresh : Reading
-fresh = record { form = None; place = 0; count = 0; found = None; rest = [] }
+abbrev pub nothing_fed : Reading
+nothing_fed = record { form = None; place = 0; count = 0; found = None; rest = [] }
 
 -- how many bytes were fed in all
 abbrev pub fed : Reading → ℕ
@@ -110,6 +110,6 @@ OnNoRecord (Ok None) P = P
 OnNoRecord (Err fault) P = P
 
 -- what ends a capture here: nothing, or a fault at a place
-abbrev pub Ends : Result (Unit {0}) CaptureFault → (place : ℕ) → Records → Type 0
-Ends (Ok u) place records = records ≡ ended
-Ends (Err fault) place records = records ≡ faulty place fault
+abbrev pub IsEndOf : Result (Unit {0}) CaptureFault → (place : ℕ) → Records → Type 0
+IsEndOf (Ok u) place records = records ≡ ended
+IsEndOf (Err fault) place records = records ≡ faulty place fault

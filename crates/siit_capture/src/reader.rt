@@ -4,9 +4,9 @@ ghost use Rattle.std.specs.Prelude.{IfOk, IfSome, IsSome, MatchOption, None};
 ghost use Rattle.siit_capture.specs.Captures.{Records, faulty, one_more};
 ghost use Rattle.siit_capture.specs.LinkPackets.{packet_as, packet_of};
 ghost use Rattle.siit_capture.specs.Peeks.{IsNext, Peeks};
-ghost use Rattle.siit_capture.specs.Readings.{Ends, HasNoRecord, IsGiven, WaitsForBytes};
+ghost use Rattle.siit_capture.specs.Readings.{IsEndOf, HasNoRecord, IsGiven, WaitsForBytes};
 ghost use Rattle.siit_capture.specs.Readings.{OnFault, OnNoRecord, OnNone, OnRecord};
-ghost use Rattle.siit_capture.specs.Readings.{fed, fresh, records_fed, records_to_come};
+ghost use Rattle.siit_capture.specs.Readings.{fed, nothing_fed, records_fed, records_to_come};
 ghost use Rattle.siit_capture.specs.Readings.{with_piece, with_record, without_record};
 ghost use Rattle.siit_capture.specs.Records.{Record};
 ghost use Rattle.siit_capture.specs.Told.{told_record};
@@ -53,7 +53,7 @@ impl Model for CaptureReader {
 impl CaptureReader {
     /// A reader to which nothing was fed. All the memory of reading is taken here.
     pub fn new(alloc: Global) -> Result<CaptureReader, NoMemory>
-        ensures { IfOk result (λ reader. reader ≡ fresh) }
+        ensures { IfOk result (λ reader. reader ≡ nothing_fed) }
     {
         let queue = ByteQueue::new(alloc)?;
         Ok(CaptureReader {
@@ -135,7 +135,7 @@ impl CaptureReader {
     /// answered comes again, and else `CutRecord` where the bytes end within the head or a record.
     pub fn finish(&self) -> Result<(), CaptureFault>
         requires { HasNoRecord (records_fed self.now) }
-        ensures { Ends result self.now.place (records_fed self.now) }
+        ensures { IsEndOf result self.now.place (records_fed self.now) }
     {
         match self.peek() {
             Err(fault) => Err(fault),

@@ -15,8 +15,8 @@ is_among word [] = false
 is_among word (other ∷ others) = bytes_eq word other || is_among word others
 
 -- a name that an output may have beside the other names of files
-abbrev pub is_output : (output : List ℕ) (others : List (List ℕ)) → Bool
-is_output output others = not (bytes_eq output (codes "-")) && not (is_among output others)
+abbrev pub is_output_name : (output : List ℕ) (others : List (List ℕ)) → Bool
+is_output_name output others = not (bytes_eq output (codes "-")) && not (is_among output others)
 
 -- a number below 2^64 in decimal digits, without sign or leading zeros
 abbrev pub number_of_text : List ℕ → Option ℕ

@@ -10,7 +10,7 @@ ghost use Rattle.siit_command.specs.Examples.{WordExamples};
 
 pub use config_texts::config_text;
 pub use reading::{Unread, read_whole};
-pub use words::{Address, is_output, read_address, read_number};
+pub use words::{Address, is_output_name, read_address, read_number};
 
 /// Words that are numbers, addresses and names of outputs, and words that are none.
 pub fn word_examples()

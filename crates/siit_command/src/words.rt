@@ -1,7 +1,7 @@
 //! Single words after a program's name: names of files, numbers and addresses.
 ghost use Rattle.std.specs.Prelude.{◌≡◌, ◌||◌, ◌==◌, map, option_map, slice_index};
 ghost use Rattle.siit_addr.specs.Texts.{has_leading_zero};
-ghost use Rattle.siit_command.specs.Words.{address_of_text, is_output, number_of_text};
+ghost use Rattle.siit_command.specs.Words.{address_of_text, is_output_name, number_of_text};
 ghost use Rattle.siit_command.specs.Addresses.{address_read};
 
 use siit_addr::{Addr4, Addr6, read_addr4, read_addr6};
@@ -14,8 +14,8 @@ pub enum Address {
 }
 
 /// Whether an output may have this name beside the other names of files: it is none of them, and isn't `-`.
-pub fn is_output(output: &str, others: &[&str]) -> bool
-    ensures { result ≡ is_output output.now (map (λ other. other.now) others.now) }
+pub fn is_output_name(output: &str, others: &[&str]) -> bool
+    ensures { result ≡ is_output_name output.now (map (λ other. other.now) others.now) }
 {
     let mut rest = others;
     while let [other, tail @ ..] = rest {

@@ -19,8 +19,8 @@ devices_of symmetric device (members ∷ tables) = do
   Ok (settings ∷ rest)
 
 -- the chain of a document's members
-abbrev pub chain_of : Members → Result Chain Fault
-chain_of members = do
+abbrev pub chain_settings_of : Members → Result Chain Fault
+chain_settings_of members = do
   left ← key 0 members as_integer family_of None (codes "left")
   symmetric ← flag_or 0 members false (codes "symmetric")
   tables ← key 0 members (array_of as_table) (λ tables. Some tables) None (codes "device")
@@ -36,4 +36,4 @@ document_of bytes = if is_utf8 bytes then parse_document bytes else None
 abbrev pub config_of : List ℕ → Result Chain Fault
 config_of bytes = do
   members ← or_fault not_toml (document_of bytes)
-  chain_of members
+  chain_settings_of members

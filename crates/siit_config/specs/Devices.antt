@@ -42,11 +42,11 @@ entry_in value = option_map mapping_entry_of (two_texts value)
 
 -- The entries, unless one of them is no prefix; those before it are counted. The count is held at its greatest value,
 -- which no configuration reaches.
-abbrev pub entries_of : (device before : ℕ) → List (Option Eam) → Result (List Eam) Fault
-entries_of device before [] = Ok []
-entries_of device before (None ∷ rest) = Err (bad_eam device (min before (2 ^ 32 - 1)))
-entries_of device before (Some entry ∷ rest) = do
-  entries ← entries_of device (before + 1) rest
+abbrev pub mapping_entries_of : (device before : ℕ) → List (Option Eam) → Result (List Eam) Fault
+mapping_entries_of device before [] = Ok []
+mapping_entries_of device before (None ∷ rest) = Err (bad_eam device (min before (2 ^ 32 - 1)))
+mapping_entries_of device before (Some entry ∷ rest) = do
+  entries ← mapping_entries_of device (before + 1) rest
   Ok (entry ∷ entries)
 
 -- a table of these entries (RFC 7757 section 3)
@@ -64,7 +64,7 @@ table_of symmetric device prefix entries = do
 abbrev pub mapping_of : (symmetric : Bool) (device : ℕ) → Prefix6 → Option (Prefix4 × Prefix6) → List (Option Eam) → Result mapping.Mapping Fault
 mapping_of symmetric device prefix (Some local) entries = Ok (mapping.customer local.0 local.1 prefix)
 mapping_of symmetric device prefix None entries = do
-  good ← entries_of device 0 entries
+  good ← mapping_entries_of device 0 entries
   table_of symmetric device prefix good
 
 module _ (device : ℕ) (members : Members) where

@@ -9,7 +9,7 @@ use Rattle.siit_map.specs.Mapping as mapping
 use Rattle.siit_roles.specs.Chain.{Chain}
 use Rattle.siit_roles.specs.declared.settings.Settings.{Settings}
 use Rattle.siit_config.specs.Faults.{missing, wrong_kind, bad_value, unknown, chain_length, mtu_order, bad_eam, eam, not_symmetric}
-use Rattle.siit_config.specs.Config.{chain_of}
+use Rattle.siit_config.specs.Config.{chain_settings_of}
 
 abbrev pair : List ℕ → List ℕ → Data
 pair first second = array (item (string first) (item (string second) no_items))
@@ -79,7 +79,7 @@ shown chain = map (λ s. (limits s, choices s, mapping_numbers s.mapping)) chain
 -- a border and an edge with one table, all else by default
 abbrev pub APairIsAccepted : Type 0
 APairIsAccepted =
-    (option_map shown (result_ok (chain_of (document true (relay (codes "border") one_entry no_members ∷ relay (codes "edge") one_entry no_members ∷ []))))
+    (option_map shown (result_ok (chain_settings_of (document true (relay (codes "border") one_entry no_members ∷ relay (codes "edge") one_entry no_members ∷ []))))
     ≡ Some (device true ∷ device false ∷ []))
   where
     device : Bool → List ℕ × List Bool × List (List ℕ)
@@ -92,7 +92,7 @@ APairIsAccepted =
 -- the customer side of 464XLAT
 abbrev pub ACustomerIsAccepted : Type 0
 ACustomerIsAccepted =
-    (option_map shown (result_ok (chain_of (document false (customer ∷ []))))
+    (option_map shown (result_ok (chain_settings_of (document false (customer ∷ []))))
     ≡ Some ((
       1500 ∷ 1500 ∷ 1280 ∷ [],
       false ∷ false ∷ false ∷ [],
@@ -102,7 +102,7 @@ ACustomerIsAccepted =
 
 abbrev pub TopLevelIsRefused : Type 0
 TopLevelIsRefused =
-    (map chain_of
+    (map chain_settings_of
     (no_members
     ∷ member (codes "left") (string (codes "4")) no_members
     ∷ member (codes "left") (integer (pos 5)) no_members
@@ -122,7 +122,7 @@ TopLevelIsRefused =
 -- that overlap in a symmetric configuration, a key that the role doesn't have, and a role that there isn't.
 abbrev pub DevicesAreRefused : Type 0
 DevicesAreRefused =
-    (map chain_of
+    (map chain_settings_of
     (document false (relay (codes "plain") one_entry limits_wrong ∷ [])
     ∷ document false (relay (codes "plain") one_entry (member (codes "x") (boolean true) limits_wrong) ∷ [])
     ∷ document false (relay (codes "plain") twice no_members ∷ [])
@@ -145,7 +145,7 @@ DevicesAreRefused =
 
 abbrev pub NestedPrefixesAreAccepted : Type 0
 NestedPrefixesAreAccepted =
-    (option_map (λ shown. map (λ s. s.0) shown) (option_map shown (result_ok (chain_of (document false (relay (codes "plain") nested no_members ∷ [])))))
+    (option_map (λ shown. map (λ s. s.0) shown) (option_map shown (result_ok (chain_settings_of (document false (relay (codes "plain") nested no_members ∷ [])))))
     ≡ Some ((1500 ∷ 1500 ∷ 1280 ∷ []) ∷ []))
 
 -- a device with this pool in its configuration
@@ -158,7 +158,7 @@ pools chain = map (λ s. map (λ a. a.0) s.pool4) chain.devices
 -- two addresses in their order, and without the key the device's own address
 abbrev pub PoolsAreRead : Type 0
 PoolsAreRead =
-    (map (λ members. option_map pools (result_ok (chain_of members)))
+    (map (λ members. option_map pools (result_ok (chain_settings_of members)))
     (with_pool (item (string (codes "192.0.2.250")) (item (string (codes "192.0.2.251")) no_items))
     ∷ document false (relay (codes "plain") one_entry no_members ∷ [])
     ∷ [])
@@ -169,7 +169,7 @@ PoolsAreRead =
 -- no address, a text that is no address, and an element that is no text, though a bad text stands before it
 abbrev pub PoolsAreRefused : Type 0
 PoolsAreRefused =
-    (map (λ texts. chain_of (with_pool texts))
+    (map (λ texts. chain_settings_of (with_pool texts))
     (no_items
     ∷ item (string (codes "192.0.2.256")) no_items
     ∷ item (string (codes "192.0.2.256")) (item (integer (pos 1)) no_items)

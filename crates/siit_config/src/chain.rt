@@ -3,7 +3,7 @@ ghost use Rattle.std.specs.Prelude.{◌≡◌, ◌≤◌, All, IfErr, IfOk, Matc
 ghost use Rattle.toml.specs.Data.{as_integer, as_table};
 ghost use Rattle.toml.specs.View.{table_view};
 ghost use Rattle.siit_roles.specs.Limits.{IsWithinLimits};
-ghost use Rattle.siit_config.specs.Config.{chain_of, config_of, document_of};
+ghost use Rattle.siit_config.specs.Config.{chain_settings_of, config_of, document_of};
 ghost use Rattle.siit_config.specs.Faults.{Gives, IsNoTableMemory, Tells, not_toml, or_fault};
 ghost use Rattle.siit_config.specs.Keys.{array_of, key};
 ghost use Rattle.siit_config.specs.Texts.{family_of};
@@ -28,7 +28,7 @@ pub fn read_config(alloc: Global, bytes: &[u8]) -> Result<ChainSettings, ConfigF
     ensures limits { IfOk result (λ chain. All IsWithinLimits chain.devices) }
 {
     let table = document_of(alloc, bytes)?;
-    chain_of(alloc, &table)
+    chain_settings_of(alloc, &table)
 }
 
 /// The table that the document is.
@@ -43,8 +43,8 @@ fn document_of(alloc: Global, bytes: &[u8]) -> Result<Table, ConfigFault>
     }
 }
 
-fn chain_of(alloc: Global, table: &Table) -> Result<ChainSettings, ConfigFault>
-    ensures told { Gives (chain_of (table_view table.now)) result }
+fn chain_settings_of(alloc: Global, table: &Table) -> Result<ChainSettings, ConfigFault>
+    ensures told { Gives (chain_settings_of (table_view table.now)) result }
     ensures devices { IfOk result (λ chain. (1 ≤ length chain.devices) × (length chain.devices ≤ 8)) }
     ensures limits { IfOk result (λ chain. All IsWithinLimits chain.devices) }
 {

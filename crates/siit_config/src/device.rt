@@ -94,6 +94,6 @@ fn mapping_of(
     if let Some((local4, local6)) = local {
         return Ok(Mapping::customer(local4, local6, prefix));
     }
-    let entries = table::entries_of(alloc, device, entries)?;
+    let entries = table::mapping_entries_of(alloc, device, entries)?;
     table::table_of(alloc, symmetric, device, prefix, &entries)
 }

@@ -1,6 +1,6 @@
 //! The table of a device.
 ghost use Rattle.std.specs.Prelude.{◌≡◌, Ok, MatchResult};
-ghost use Rattle.siit_config.specs.Devices.{entries_of, table_of};
+ghost use Rattle.siit_config.specs.Devices.{mapping_entries_of, table_of};
 ghost use Rattle.siit_config.specs.Faults.{Gives, Tells};
 
 use crate::fault::ConfigFault;
@@ -32,12 +32,12 @@ pub(crate) fn table_of(
 }
 
 /// The entries, which must all be there.
-pub(crate) fn entries_of(
+pub(crate) fn mapping_entries_of(
     alloc: Global,
     device: u8,
     entries: &[Option<Eam>],
 ) -> Result<Vec<Eam>, ConfigFault>
-    ensures { let told = entries_of device 0 entries.now in
+    ensures { let told = mapping_entries_of device 0 entries.now in
         MatchResult result (λ good. told ≡ Ok good.items) (λ e. Tells e told) }
 {
     let mut good = Vec::new(alloc);

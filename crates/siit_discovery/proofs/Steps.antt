@@ -8,8 +8,8 @@ use Rattle.siit_dns.specs.Messages.{DnsMessage, ResourceRecord, message_of}
 use Rattle.siit_dns.specs.declared.fault.DnsFault.{DnsFault}
 use Rattle.siit_dns.specs.declared.fault.DnsFault.TheVariants.{Bad, NotAnswer}
 use Rattle.siit_discovery.specs.Counting.{counting_at}
-use Rattle.siit_discovery.specs.Discovery.{Candidate, added, addresses_of, candidate_at, counting, counts, found, found_in, is_address, is_answer, prefix_of, prefixes_of}
-use Rattle.siit_discovery.specs.Refused.{IsRefusal}
+use Rattle.siit_discovery.specs.Discovery.{Candidate, with_prefix, addresses_of, candidate_at, counting, counts, found, found_in, is_address, is_answer, prefix_of, prefixes_of}
+use Rattle.siit_discovery.specs.Refused.{IsDiscoveryFault}
 
 -- the next element of a list that is gone through
 pub drop-step : {A : Type 0} (i : ℕ) (xs : List A) (x : A) → i < length xs → x ≡ get_or xs i x → drop i xs ≡ x ∷ drop (i + 1) xs
@@ -42,22 +42,22 @@ filter-option test (Some c) others = by_test (test c) c (filter test others)
 
 -- the candidate of one length, and those of the lengths behind it
 pub length-more : (alone : Bool) (addresses lengths : List ℕ) (x len : ℕ) (found : List (ℕ × ℕ))
-    → fold added found (map prefix_of (filter (counts alone addresses) (filter_map (candidate_at x) (len ∷ lengths))))
-    ≡ fold added (fold added found (map prefix_of (counting_at alone addresses (candidate_at x len)))) (map prefix_of (filter (counts alone addresses) (filter_map (candidate_at x) lengths)))
+    → fold with_prefix found (map prefix_of (filter (counts alone addresses) (filter_map (candidate_at x) (len ∷ lengths))))
+    ≡ fold with_prefix (fold with_prefix found (map prefix_of (counting_at alone addresses (candidate_at x len)))) (map prefix_of (filter (counts alone addresses) (filter_map (candidate_at x) lengths)))
 length-more alone addresses lengths x len found =
     let first : List Candidate = counting_at alone addresses (candidate_at x len) in
     let others : List Candidate = filter (counts alone addresses) (filter_map (candidate_at x) lengths) in
-    ap (λ (cs : List Candidate). fold added found (map prefix_of cs)) (filter-option (counts alone addresses) (candidate_at x len) (filter_map (candidate_at x) lengths))
-    ∙ ap (fold added found) (map-append prefix_of first others)
-    ∙ fold-append added found (map prefix_of first) (map prefix_of others)
+    ap (λ (cs : List Candidate). fold with_prefix found (map prefix_of cs)) (filter-option (counts alone addresses) (candidate_at x len) (filter_map (candidate_at x) lengths))
+    ∙ ap (fold with_prefix found) (map-append prefix_of first others)
+    ∙ fold-append with_prefix found (map prefix_of first) (map prefix_of others)
 
 -- the candidates of one address, and those of the addresses behind it
 pub address-more : (addresses rest : List ℕ) (x : ℕ) (found : List (ℕ × ℕ))
-    → fold added found (map prefix_of (flat_map (counting addresses) (x ∷ rest)))
-    ≡ fold added (fold added found (map prefix_of (counting addresses x))) (map prefix_of (flat_map (counting addresses) rest))
+    → fold with_prefix found (map prefix_of (flat_map (counting addresses) (x ∷ rest)))
+    ≡ fold with_prefix (fold with_prefix found (map prefix_of (counting addresses x))) (map prefix_of (flat_map (counting addresses) rest))
 address-more addresses rest x found =
-    ap (fold added found) (map-append prefix_of (counting addresses x) (flat_map (counting addresses) rest))
-    ∙ fold-append added found (map prefix_of (counting addresses x)) (map prefix_of (flat_map (counting addresses) rest))
+    ap (fold with_prefix found) (map-append prefix_of (counting addresses x) (flat_map (counting addresses) rest))
+    ∙ fold-append with_prefix found (map prefix_of (counting addresses x)) (map prefix_of (flat_map (counting addresses) rest))
 
 -- the address of one record, and those of the records behind it
 by_test_of : (test : Bool) (r : ResourceRecord) (rest : List ResourceRecord)
@@ -70,11 +70,11 @@ pub record-more : (r : ResourceRecord) (rest : List ResourceRecord) → addresse
 record-more r rest = by_test_of (is_address r) r rest
 
 -- how an answer is refused
-read_refused_of : (read : Result DnsMessage ℕ) (fault : DnsFault) → Some fault ≡ message_fault read → IsRefusal fault (found_in read)
+read_refused_of : (read : Result DnsMessage ℕ) (fault : DnsFault) → Some fault ≡ message_fault read → IsDiscoveryFault fault (found_in read)
 read_refused_of (Ok message) fault is_fault = absurd (cc)
 read_refused_of (Err place) fault is_fault = let same : fault ≡ Bad place = cc in rw same refl
 
-pub read-refused : (bytes : List ℕ) (fault : DnsFault) → Some fault ≡ message_fault (message_of bytes) → IsRefusal fault (found bytes)
+pub read-refused : (bytes : List ℕ) (fault : DnsFault) → Some fault ≡ message_fault (message_of bytes) → IsDiscoveryFault fault (found bytes)
 unfolding found
 read-refused bytes fault is_fault = read_refused_of (message_of bytes) fault is_fault
 

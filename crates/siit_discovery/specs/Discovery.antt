@@ -61,15 +61,15 @@ abbrev pub is_there : List (ℕ × ℕ) → ℕ × ℕ → Bool
 is_there found prefix = list_any (λ other. (other.0 == prefix.0) && (other.1 == prefix.1)) found
 
 -- a prefix behind those that were found, unless it is there
-abbrev pub added : List (ℕ × ℕ) → ℕ × ℕ → List (ℕ × ℕ)
-added found prefix = if is_there found prefix then found else found ++ prefix ∷ []
+abbrev pub with_prefix : List (ℕ × ℕ) → ℕ × ℕ → List (ℕ × ℕ)
+with_prefix found prefix = if is_there found prefix then found else found ++ prefix ∷ []
 
 abbrev pub prefix_of : Candidate → ℕ × ℕ
 prefix_of c = (c.prefix, c.len)
 
 -- the prefixes of the candidates that count, by address and then by length, each once
 abbrev pub prefixes_of : List ℕ → List (ℕ × ℕ)
-prefixes_of addresses = fold added [] (map prefix_of (flat_map (counting addresses) addresses))
+prefixes_of addresses = fold with_prefix [] (map prefix_of (flat_map (counting addresses) addresses))
 
 -- the name ipv4only.arpa
 abbrev pub ipv4only : List ℕ

@@ -1,7 +1,7 @@
 //! The candidates that count (RFC 7050 section 3).
 ghost use Rattle.std.specs.Prelude.{◌≡◌, ◌≤◌, option_to_list, IfOk, IsTrue, OnOk, fold, length, map};
 ghost use Rattle.siit_rfc6052.specs.Embedding.{is_embedding_length};
-ghost use Rattle.siit_discovery.specs.Discovery.{added, candidate_at, candidates, counting, has_partner, is_there, prefix_of, prefixes_of};
+ghost use Rattle.siit_discovery.specs.Discovery.{with_prefix, candidate_at, candidates, counting, has_partner, is_there, prefix_of, prefixes_of};
 ghost use Rattle.siit_discovery.specs.Counting.{counting_at};
 ghost use Rattle.siit_discovery.specs.Seen.{address_seen, candidate_seen, prefix_seen};
 
@@ -26,7 +26,7 @@ pub(crate) fn prefixes_of(alloc: Global, addresses: &[Addr6]) -> Result<Vec<Pref
 /// Adds the prefixes of the candidates of an address that count.
 fn push_counting(found: &mut Vec<Prefix6>, addresses: &[Addr6], x: Addr6) -> Result<(), AllocError>
     ensures { OnOk result (map prefix_seen found.new.items
-        ≡ fold added (map prefix_seen found.old.items) (map prefix_of (counting (map address_seen addresses.now) x.0))) }
+        ≡ fold with_prefix (map prefix_seen found.old.items) (map prefix_of (counting (map address_seen addresses.now) x.0))) }
 {
     let alone = count_candidates(x) == 1;
     for len in LENGTHS {
@@ -45,7 +45,7 @@ fn push_if_counting(
 ) -> Result<(), AllocError>
     requires { IsTrue (is_embedding_length len) }
     ensures { OnOk result (map prefix_seen found.new.items
-        ≡ fold added (map prefix_seen found.old.items)
+        ≡ fold with_prefix (map prefix_seen found.old.items)
         (map prefix_of (counting_at alone (map address_seen addresses.now) (candidate_at x.0 len)))) }
 {
     let Some(candidate) = candidate_at(x, len) else {
@@ -96,7 +96,7 @@ fn has_partner(addresses: &[Addr6], c: &Candidate) -> bool
 /// Adds a prefix, unless it is there.
 fn push_new(found: &mut Vec<Prefix6>, prefix: Prefix6) -> Result<(), AllocError>
     ensures { OnOk result (map prefix_seen found.new.items
-        ≡ added (map prefix_seen found.old.items) (prefix_seen prefix)) }
+        ≡ with_prefix (map prefix_seen found.old.items) (prefix_seen prefix)) }
 {
     if !is_there(found.as_slice(), prefix) {
         found.push(prefix)?;

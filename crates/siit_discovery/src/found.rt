@@ -2,7 +2,7 @@
 ghost use Rattle.std.specs.Prelude.{◌≡◌, ◌≤◌, ◌∷◌, ◌++◌, [], IfOk, IfErr, OnOk, length, map};
 ghost use Rattle.siit_dns.specs.Seen.{IsSized, record_seen};
 ghost use Rattle.siit_discovery.specs.Discovery.{addresses_of, found, ipv4only, is_answer, prefixes_of};
-ghost use Rattle.siit_discovery.specs.Refused.{IsRefusal};
+ghost use Rattle.siit_discovery.specs.Refused.{IsDiscoveryFault};
 ghost use Rattle.siit_discovery.specs.Seen.{address_seen, prefix_seen};
 
 use crate::counting::prefixes_of;
@@ -18,7 +18,7 @@ use std::alloc::{AllocError, Global};
 pub fn prefixes(alloc: Global, answer: &[u8]) -> Result<Vec<Prefix6>, DnsFault>
     requires { length answer.now ≤ 65535 }
     ensures found { IfOk result (λ prefixes. found answer.now ≡ Ok (map prefix_seen prefixes.items)) }
-    ensures refused { IfErr result (λ fault. IsRefusal fault (found answer.now)) }
+    ensures refused { IfErr result (λ fault. IsDiscoveryFault fault (found answer.now)) }
 {
     let message = match Message::read(answer) {
         Ok(message) => message,

@@ -58,8 +58,8 @@ abbrev pub best6 : List Eam → ℕ → Option (ℕ × Eam)
 best6 entries x = longest (holds6 x) length6 entries
 
 -- where an address goes: the place of its entry, and the address of the other family
-abbrev pub forth : List Eam → ℕ → Option (ℕ × ℕ)
-forth entries a = option_map (λ best. (best.0, up best.1 a)) (best4 entries a)
+abbrev pub entry_to_6 : List Eam → ℕ → Option (ℕ × ℕ)
+entry_to_6 entries a = option_map (λ best. (best.0, up best.1 a)) (best4 entries a)
 
-abbrev pub back : List Eam → ℕ → Option (ℕ × ℕ)
-back entries x = option_map (λ best. (best.0, down best.1 x)) (best6 entries x)
+abbrev pub entry_to_4 : List Eam → ℕ → Option (ℕ × ℕ)
+entry_to_4 entries x = option_map (λ best. (best.0, down best.1 x)) (best6 entries x)

@@ -2,7 +2,7 @@
 ghost use Rattle.std.specs.Prelude.{◌≡◌, ◌+◌, ◌<◌, ◌≤◌, ◌⊎◌, Err, IfErr, IfOk, None, OnOk, Some, length, option_map};
 ghost use Rattle.std.specs.List.{slice_get};
 ghost use Rattle.siit_eamt.specs.Disjoint.{is_disjoint};
-ghost use Rattle.siit_eamt.specs.Entries.{back, forth};
+ghost use Rattle.siit_eamt.specs.Entries.{entry_to_4, entry_to_6};
 ghost use Rattle.siit_eamt.specs.Faults.{table_fault};
 ghost use Rattle.siit_eamt.specs.declared.entry.EamFault.TheVariants.{NoMemory, TooMany};
 
@@ -79,7 +79,7 @@ impl Eamt {
     /// 3.3.1). `None` where no entry holds it. Each node of the trie that is read counts as one step, and so does the
     /// entry that is answered.
     pub fn find4<L: Ledger>(&self, a: Addr4, steps: &mut Steps<L>) -> Option<Hit6>
-        ensures found { option_map (λ hit. (hit.entry, hit.address.0)) result ≡ forth self.now a.0 }
+        ensures found { option_map (λ hit. (hit.entry, hit.address.0)) result ≡ entry_to_6 self.now a.0 }
         ensures cost { steps.new ≤ steps.old + 34 }
         ensures counted { steps.old ≤ steps.new }
     {
@@ -97,7 +97,7 @@ impl Eamt {
     /// 3.3.2). `None` where no entry holds it. Each node of the trie that is read counts as one step, and so does the
     /// entry that is answered.
     pub fn find6<L: Ledger>(&self, x: Addr6, steps: &mut Steps<L>) -> Option<Hit4>
-        ensures found { option_map (λ hit. (hit.entry, hit.address.0)) result ≡ back self.now x.0 }
+        ensures found { option_map (λ hit. (hit.entry, hit.address.0)) result ≡ entry_to_4 self.now x.0 }
         ensures cost { steps.new ≤ steps.old + 130 }
         ensures counted { steps.old ≤ steps.new }
     {

@@ -7,7 +7,7 @@ use Rattle.siit_addr.specs.Addresses.{agree}
 use Rattle.siit_addr.specs.declared.addr.Prefix6.{Prefix6}
 use Rattle.siit_rfc6052.specs.Embedding.{ExtractsEmbedded, octet_places, gathered}
 use Rattle.siit_eamt.specs.declared.entry.Eam.{Eam as Entry}
-use Rattle.siit_eamt.specs.Entries.{best4, best6, up, down, holds4, forth}
+use Rattle.siit_eamt.specs.Entries.{best4, best6, up, down, holds4, entry_to_6}
 use Rattle.siit_eamt.specs.Faults.{table_fault}
 use Rattle.siit_eamt.proofs.Accepted.{held_from_longest, good_from_accepted}
 use Rattle.siit_eamt.proofs.Disjoint.{disjoint_from_test}
@@ -110,7 +110,7 @@ replies_come law entries prefix accepted host first from to sent =
     ∙ ap (λ (x : Option ℕ). turned_between (Some first) x) own
 
 -- an address that maps back under the prefix to an IPv4 address without an entry has no host of its own
-no_own_address : (mapping : Mapping) (d : ℕ) (by : Means) → (by ≡ Prefix → forth (entries_of mapping) d ≡ None) → own_address mapping (Ok (d, by)) ≡ None
+no_own_address : (mapping : Mapping) (d : ℕ) (by : Means) → (by ≡ Prefix → entry_to_6 (entries_of mapping) d ≡ None) → own_address mapping (Ok (d, by)) ≡ None
 no_own_address mapping d (Eam i) none = refl
 no_own_address mapping d Prefix none = ap (option_map (λ (hit : ℕ × ℕ). hit.1)) (none refl)
 no_own_address mapping d Local none = refl
@@ -135,7 +135,7 @@ no_entry_forth entries prefix accepted d x by back (Some best) found to =
     absurd (not_under_prefix entries prefix (up best.1 d) d (best6 entries (up best.1 d)) (not_none_above entries best.0 best.1 d here.0 good here.1) at)
 
 no_forth : (mapping : Mapping) → table_fault (entries_of mapping) ≡ None → (d x : ℕ) (by : Means)
-    → ipv6_for mapping d ≡ Ok (x, by) → ipv4_for mapping x ≡ Ok (d, Prefix) → forth (entries_of mapping) d ≡ None
+    → ipv6_for mapping d ≡ Ok (x, by) → ipv4_for mapping x ≡ Ok (d, Prefix) → entry_to_6 (entries_of mapping) d ≡ None
 no_forth (table entries prefix) accepted d x by to back = no_entry_forth entries prefix accepted d x by back (best4 entries d) refl to
 no_forth (customer local4 local6 provider) accepted d x by to back = refl
 

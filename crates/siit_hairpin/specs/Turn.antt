@@ -1,7 +1,7 @@
 -- Hairpinning (RFC 7757 section 4): an IPv6 packet for the translated form of a host that has an entry of its own goes
 -- back to the IPv6 side. The form of it, by addresses alone, is this project's own.
 use Rattle.std.specs.Prelude.{ℕ, Option, Some, None, option_map, Result, Ok}
-use Rattle.siit_eamt.specs.Entries.{forth}
+use Rattle.siit_eamt.specs.Entries.{entry_to_6}
 use Rattle.siit_map.specs.declared.mapping.Means.{Means}
 use Rattle.siit_map.specs.declared.mapping.Means.TheVariants.{Prefix}
 use Rattle.siit_map.specs.declared.mapping.MapRefusal.{MapRefusal}
@@ -16,7 +16,7 @@ pair_of source destination = Pair (record { src = record { 0 = source }; dst = r
 
 -- the address that an entry gives an IPv4 address which was found under the prefix
 abbrev pub own_address : Mapping → Result (ℕ × Means) MapRefusal → Option ℕ
-own_address mapping (Ok (d, Prefix)) = option_map (λ hit. hit.1) (forth (entries_of mapping) d)
+own_address mapping (Ok (d, Prefix)) = option_map (λ hit. hit.1) (entry_to_6 (entries_of mapping) d)
 own_address mapping _ = None
 
 -- A packet without such a destination is not turned; one with it, whose source has no form under the prefix, is

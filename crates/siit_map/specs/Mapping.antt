@@ -4,7 +4,7 @@ use Rattle.std.specs.Prelude.{ℕ, List, [], if◌then◌else◌, Option, Some, 
 use Rattle.siit_addr.specs.declared.addr.Prefix4.{Prefix4}
 use Rattle.siit_addr.specs.declared.addr.Prefix6.{Prefix6}
 use Rattle.siit_eamt.specs.declared.entry.Eam.{Eam as Entry}
-use Rattle.siit_eamt.specs.Entries.{forth, back}
+use Rattle.siit_eamt.specs.Entries.{entry_to_4, entry_to_6}
 use Rattle.siit_map.specs.declared.mapping.Means.{Means}
 use Rattle.siit_map.specs.declared.mapping.Means.TheVariants.{Eam, Local}
 use Rattle.siit_map.specs.declared.mapping.MapRefusal.{MapRefusal}
@@ -31,10 +31,10 @@ by_entry None other = other
 by_entry (Some hit) other = Ok (hit.1, Eam hit.0)
 
 abbrev pub ipv6_for : Mapping → ℕ → Result (ℕ × Means) MapRefusal
-ipv6_for (table entries prefix) a = by_entry (forth entries a) (under_prefix prefix a)
+ipv6_for (table entries prefix) a = by_entry (entry_to_6 entries a) (under_prefix prefix a)
 ipv6_for (customer local4 local6 provider) a =
     if is_local local4 a then Ok (embedded_in local6 a, Local) else under_prefix provider a
 
 abbrev pub ipv4_for : Mapping → ℕ → Result (ℕ × Means) MapRefusal
-ipv4_for (table entries prefix) x = by_entry (back entries x) (extracted_under prefix x)
+ipv4_for (table entries prefix) x = by_entry (entry_to_4 entries x) (extracted_under prefix x)
 ipv4_for (customer local4 local6 provider) x = customer_back local4 local6 provider x

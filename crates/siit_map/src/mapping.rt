@@ -1,6 +1,6 @@
 //! The mapping of a device.
 ghost use Rattle.std.specs.Prelude.{◌≡◌, ◌+◌, ◌≤◌, Err, IfErr, IfOk, IsTrue, None, Ok, option_map};
-ghost use Rattle.siit_eamt.specs.Entries.{forth};
+ghost use Rattle.siit_eamt.specs.Entries.{entry_to_6};
 ghost use Rattle.siit_eamt.specs.Faults.{table_fault};
 ghost use Rattle.siit_rfc6052.specs.Embedding.{is_embedding_prefix};
 ghost use Rattle.siit_map.specs.Mapping.{customer, entries_of, ipv4_for, ipv6_for, prefix_in, table};
@@ -147,7 +147,7 @@ impl Mapping {
     /// The entry of an IPv4 address, and the address that it gives, or `None` where no entry holds it. A customer has
     /// no entries. Each step is a node or an entry of the table that is read.
     pub fn eam_of<L: Ledger>(&self, a: Addr4, steps: &mut Steps<L>) -> Option<Hit6>
-        ensures found { option_map (λ hit. (hit.entry, hit.address.0)) result ≡ forth (entries_of self.now) a.0 }
+        ensures found { option_map (λ hit. (hit.entry, hit.address.0)) result ≡ entry_to_6 (entries_of self.now) a.0 }
         ensures cost { steps.new ≤ steps.old + 34 }
         ensures counted { steps.old ≤ steps.new }
     {

@@ -1,7 +1,6 @@
 pub mod Records
 pub mod Translated
 pub mod Packets
-pub mod EndLines
 pub mod Carried
 pub mod Outputs
 pub mod WkpRuns

@@ -8,7 +8,7 @@ use Rattle.siit_command.specs.declared.reading.Unread.TheVariants as unread
 use Rattle.siit_top.specs.PlainCapture.{records_of}
 use Rattle.siit_top.specs.Promises.{Promise}
 use Rattle.siit_top.specs.Ends.{stopped_status, unread_status}
-use Rattle.siit_top.specs.Runs.{run_of, IsStopped}
+use Rattle.siit_top.specs.Runs.{run_between, IsStopped}
 use Rattle.siit_top.specs.Turns.{records_read}
 use Rattle.siit_top.specs.Wkp.{wkp_capture, wkp_line}
 use Rattle.siit_top.specs.WkpRun.{not_built}
@@ -27,7 +27,7 @@ among_both output h = touches_among h (λ q none. none) (λ q none. tt)
 both_among : {before after : FilesMeaning} {output : List ℕ} (input : List ℕ) → Touches before after [] (output ∷ []) → Touches before after (input ∷ []) (output ∷ [])
 both_among input h = touches_among h (λ q none. tt) (λ q none. none)
 
-wkp_not_read : {before after : FilesMeaning} {coming : ℕ → ℕ → ℕ} {input output out : List ℕ} → Touches before after (input ∷ []) [] → ReadFailed before after input → Promise (wkp input output) (run_of before after coming coming out out ReadFault)
+wkp_not_read : {before after : FilesMeaning} {coming : ℕ → ℕ → ℕ} {input output out : List ℕ} → Touches before after (input ∷ []) [] → ReadFailed before after input → Promise (wkp input output) (run_between before after coming coming out out ReadFault)
 wkp_not_read {before} {after} {coming} {input} {output} only cause = record {
   answer = unwritten only;
   read_fault = λ is. inl cause;
@@ -37,7 +37,7 @@ wkp_not_read {before} {after} {coming} {input} {output} only cause = record {
   silent = λ other. refl;
 }
 
-wkp_no_room : {before after : FilesMeaning} {coming : ℕ → ℕ → ℕ} {input output out : List ℕ} → Touches before after (input ∷ []) [] → Promise (wkp input output) (run_of before after coming coming out out NoMemory)
+wkp_no_room : {before after : FilesMeaning} {coming : ℕ → ℕ → ℕ} {input output out : List ℕ} → Touches before after (input ∷ []) [] → Promise (wkp input output) (run_between before after coming coming out out NoMemory)
 wkp_no_room {before} {after} {coming} {input} {output} only = record {
   answer = inl (unwritten only);
   read_fault = λ is. cc;
@@ -47,7 +47,7 @@ wkp_no_room {before} {after} {coming} {input} {output} only = record {
   silent = λ other. refl;
 }
 
-wkp_too_long : {before after : FilesMeaning} {coming : ℕ → ℕ → ℕ} {input output out : List ℕ} → Touches before after (input ∷ []) [] → IsLonger before input 4294967296 → Promise (wkp input output) (run_of before after coming coming out out (TooLong 1))
+wkp_too_long : {before after : FilesMeaning} {coming : ℕ → ℕ → ℕ} {input output out : List ℕ} → Touches before after (input ∷ []) [] → IsLonger before input 4294967296 → Promise (wkp input output) (run_between before after coming coming out out (TooLong 1))
 wkp_too_long {before} {after} {coming} {input} {output} only long = record {
   answer = record { word = refl; long = long; unwritten = unwritten only };
   read_fault = λ is. cc;
@@ -57,16 +57,16 @@ wkp_too_long {before} {after} {coming} {input} {output} only long = record {
   silent = λ other. refl;
 }
 
-unread_by : (u : Unread) (before after : FilesMeaning) (coming : ℕ → ℕ → ℕ) (input output out : List ℕ) → Touches before after (input ∷ []) [] → IsUnread before after input 4294967296 u → Promise (wkp input output) (run_of before after coming coming out out (unread_status 1 u))
+unread_by : (u : Unread) (before after : FilesMeaning) (coming : ℕ → ℕ → ℕ) (input output out : List ℕ) → Touches before after (input ∷ []) [] → IsUnread before after input 4294967296 u → Promise (wkp input output) (run_between before after coming coming out out (unread_status 1 u))
 unread_by unread.Failed before after coming input output out only cause = wkp_not_read only cause
 unread_by unread.NoMemory before after coming input output out only cause = wkp_no_room only
 unread_by unread.TooLong before after coming input output out only cause = wkp_too_long only cause
 
 -- IN wasn't read.
-pub wkp_unread : (u : Unread) {before after : FilesMeaning} {coming : ℕ → ℕ → ℕ} {input output out : List ℕ} → Touches before after (input ∷ []) [] → IsUnread before after input 4294967296 u → Promise (wkp input output) (run_of before after coming coming out out (unread_status 1 u))
+pub wkp_unread : (u : Unread) {before after : FilesMeaning} {coming : ℕ → ℕ → ℕ} {input output out : List ℕ} → Touches before after (input ∷ []) [] → IsUnread before after input 4294967296 u → Promise (wkp input output) (run_between before after coming coming out out (unread_status 1 u))
 wkp_unread u {before} {after} {coming} {input} {output} {out} only cause = unread_by u before after coming input output out only cause
 
-pub wkp_no_capture : {before after : FilesMeaning} {coming : ℕ → ℕ → ℕ} {input output out bytes : List ℕ} → Touches before after (input ∷ []) [] → WasRead before input 4294967296 bytes → is_some (records_of bytes) ≡ false → Promise (wkp input output) (run_of before after coming coming out out not_built)
+pub wkp_no_capture : {before after : FilesMeaning} {coming : ℕ → ℕ → ℕ} {input output out bytes : List ℕ} → Touches before after (input ∷ []) [] → WasRead before input 4294967296 bytes → is_some (records_of bytes) ≡ false → Promise (wkp input output) (run_between before after coming coming out out not_built)
 wkp_no_capture {before} {after} {coming} {input} {output} {out} {bytes} only read bad = record {
   answer = record { bytes = bytes; read = read; plain = bad; fault = refl; unwritten = unwritten only };
   read_fault = λ is. cc;
@@ -80,7 +80,7 @@ wkp_no_capture {before} {after} {coming} {input} {output} {out} {bytes} only rea
 both : {before mid after : FilesMeaning} {input output : List ℕ} → Touches before mid (input ∷ []) [] → Touches mid after [] (output ∷ []) → Touches before after (input ∷ []) (output ∷ [])
 both {before} {mid} {after} {input} {output} read written = touches_then (among_both output read) (both_among input written)
 
-pub wkp_carried : {before mid after : FilesMeaning} {coming : ℕ → ℕ → ℕ} {input output out_before out_after capture : List ℕ} → Touches before mid (input ∷ []) [] → WasRead before input 4294967296 capture → is_some (records_of capture) ≡ true → Written mid after output (wkp_capture (records_read capture)) → out_after ≡ out_before ++ wkp_line (records_read capture) → Promise (wkp input output) (run_of before after coming coming out_before out_after Ok)
+pub wkp_carried : {before mid after : FilesMeaning} {coming : ℕ → ℕ → ℕ} {input output out_before out_after capture : List ℕ} → Touches before mid (input ∷ []) [] → WasRead before input 4294967296 capture → is_some (records_of capture) ≡ true → Written mid after output (wkp_capture (records_read capture)) → out_after ≡ out_before ++ wkp_line (records_read capture) → Promise (wkp input output) (run_between before after coming coming out_before out_after Ok)
 wkp_carried {capture = capture} only read plain written line = record {
   answer = record { capture = capture; read = read; plain = plain; written = written.file; line = line };
   read_fault = λ is. cc;
@@ -95,7 +95,7 @@ part_since : (before mid after : FilesMeaning) (input output text : List ℕ) �
 part_since before mid after input output text only part = λ told.
     ⊎_elim (λ same. inl (same ∙ only.contents output tt)) inr (part.file told)
 
-wkp_not_written : {before mid after : FilesMeaning} {coming : ℕ → ℕ → ℕ} {input output out_before out_after capture : List ℕ} → Touches before mid (input ∷ []) [] → WasRead before input 4294967296 capture → is_some (records_of capture) ≡ true → WrittenPart mid after output (wkp_capture (records_read capture)) → WriteFailed mid after output → out_after ≡ out_before → Promise (wkp input output) (run_of before after coming coming out_before out_after WriteFault)
+wkp_not_written : {before mid after : FilesMeaning} {coming : ℕ → ℕ → ℕ} {input output out_before out_after capture : List ℕ} → Touches before mid (input ∷ []) [] → WasRead before input 4294967296 capture → is_some (records_of capture) ≡ true → WrittenPart mid after output (wkp_capture (records_read capture)) → WriteFailed mid after output → out_after ≡ out_before → Promise (wkp input output) (run_between before after coming coming out_before out_after WriteFault)
 wkp_not_written {before} {mid} {after} {coming} {input} {output} {out_before} {out_after} {capture} only read plain part cause same = record {
   answer = record { capture = capture; read = read; plain = plain; part = part_since _ _ _ _ _ _ only part };
   read_fault = λ is. cc;
@@ -105,7 +105,7 @@ wkp_not_written {before} {mid} {after} {coming} {input} {output} {out_before} {o
   silent = λ other. same;
 }
 
-wkp_no_more : {before mid after : FilesMeaning} {coming : ℕ → ℕ → ℕ} {input output out_before out_after capture : List ℕ} → Touches before mid (input ∷ []) [] → WasRead before input 4294967296 capture → is_some (records_of capture) ≡ true → WrittenPart mid after output (wkp_capture (records_read capture)) → out_after ≡ out_before → Promise (wkp input output) (run_of before after coming coming out_before out_after NoMemory)
+wkp_no_more : {before mid after : FilesMeaning} {coming : ℕ → ℕ → ℕ} {input output out_before out_after capture : List ℕ} → Touches before mid (input ∷ []) [] → WasRead before input 4294967296 capture → is_some (records_of capture) ≡ true → WrittenPart mid after output (wkp_capture (records_read capture)) → out_after ≡ out_before → Promise (wkp input output) (run_between before after coming coming out_before out_after NoMemory)
 wkp_no_more {before} {mid} {after} {coming} {input} {output} {out_before} {out_after} {capture} only read plain part same = record {
   answer = inr (record { capture = capture; read = read; plain = plain; part = part_since _ _ _ _ _ _ only part });
   read_fault = λ is. cc;
@@ -115,12 +115,12 @@ wkp_no_more {before} {mid} {after} {coming} {input} {output} {out_before} {out_a
   silent = λ other. same;
 }
 
-stopped_by : (t : Stopped) (before mid after : FilesMeaning) (coming : ℕ → ℕ → ℕ) (input output out_before out_after capture : List ℕ) → Touches before mid (input ∷ []) [] → WasRead before input 4294967296 capture → is_some (records_of capture) ≡ true → WrittenPart mid after output (wkp_capture (records_read capture)) → IsStopped mid after output t → out_after ≡ out_before → Promise (wkp input output) (run_of before after coming coming out_before out_after (stopped_status t))
+stopped_by : (t : Stopped) (before mid after : FilesMeaning) (coming : ℕ → ℕ → ℕ) (input output out_before out_after capture : List ℕ) → Touches before mid (input ∷ []) [] → WasRead before input 4294967296 capture → is_some (records_of capture) ≡ true → WrittenPart mid after output (wkp_capture (records_read capture)) → IsStopped mid after output t → out_after ≡ out_before → Promise (wkp input output) (run_between before after coming coming out_before out_after (stopped_status t))
 stopped_by stopped.Failed before mid after coming input output out_before out_after capture only read plain part cause same = wkp_not_written only read plain part cause same
 stopped_by stopped.NoMemory before mid after coming input output out_before out_after capture only read plain part cause same = wkp_no_more only read plain part same
 
 -- OUT wasn't written to its end.
-pub wkp_stopped : (t : Stopped) {before mid after : FilesMeaning} {coming : ℕ → ℕ → ℕ} {input output out_before out_after capture : List ℕ} → Touches before mid (input ∷ []) [] → WasRead before input 4294967296 capture → is_some (records_of capture) ≡ true → WrittenPart mid after output (wkp_capture (records_read capture)) → IsStopped mid after output t → out_after ≡ out_before → Promise (wkp input output) (run_of before after coming coming out_before out_after (stopped_status t))
+pub wkp_stopped : (t : Stopped) {before mid after : FilesMeaning} {coming : ℕ → ℕ → ℕ} {input output out_before out_after capture : List ℕ} → Touches before mid (input ∷ []) [] → WasRead before input 4294967296 capture → is_some (records_of capture) ≡ true → WrittenPart mid after output (wkp_capture (records_read capture)) → IsStopped mid after output t → out_after ≡ out_before → Promise (wkp input output) (run_between before after coming coming out_before out_after (stopped_status t))
 wkp_stopped t {before} {mid} {after} {coming} {input} {output} {out_before} {out_after} {capture} only read plain part cause same =
     stopped_by t before mid after coming input output out_before out_after capture only read plain part cause same
 

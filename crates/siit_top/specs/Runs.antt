@@ -19,9 +19,9 @@ pub record Run : Type 0 where
   pub out_after : List ℕ
   pub status : Status
 
-abbrev pub run_of : (before after : FilesMeaning) (coming_before coming_after : ℕ → ℕ → ℕ) (out_before out_after : List ℕ)
+abbrev pub run_between : (before after : FilesMeaning) (coming_before coming_after : ℕ → ℕ → ℕ) (out_before out_after : List ℕ)
     → Status → Run
-run_of before after coming_before coming_after out_before out_after status = record {
+run_between before after coming_before coming_after out_before out_after status = record {
   before = before;
   after = after;
   coming_before = coming_before;

@@ -1,14 +1,14 @@
 -- What `wkp IN OUT` writes: each plain packet of IN, translated under the well-known prefix.
-use Rattle.std.specs.Prelude.{ℕ, ◌-◌, ◌*◌, List, [], ◌∷◌, ◌++◌, length, Bool, false, not, ◌&&◌, ◌||◌, ◌==◌, nat_lt, nat_le, if◌then◌else◌, Option, Some, None, is_some, option_and_then, count_by, codes}
+use Rattle.std.specs.Prelude.{ℕ, ◌-◌, ◌*◌, List, [], ◌++◌, length, Bool, false, not, ◌&&◌, ◌||◌, ◌==◌, nat_lt, nat_le, if◌then◌else◌, Option, Some, None, is_some, option_and_then, count_by}
 use Rattle.std.specs.List.{flat_map}
 use Rattle.std.specs.Option.{option_map_or}
-use Rattle.std.specs.Fmt.{decimal}
 use Rattle.siit_addr.specs.Addresses.{is_non_global_number}
 use Rattle.siit_model.specs.Bytes.{field16}
 use Rattle.siit_model.specs.Fragments.{fragment4}
 use Rattle.siit_model.specs.Ipv4.{Ipv4Packet, ipv4_of, is_whole4, total_length4}
 use Rattle.siit_model.specs.Ipv6.{ipv6_bytes}
 use Rattle.siit_v4to6.specs.To6.{Head6, packet6, translated_to_6}
+use Rattle.siit_chain.specs.Texts.{Totals, end_line}
 use Rattle.siit_rfc6052.specs.Embedding.{embedded, well_known}
 use Rattle.siit_top.specs.PlainCapture.{Captured}
 use Rattle.siit_top.specs.WrittenCapture.{output_head, output_record}
@@ -65,12 +65,11 @@ is_carried captured = is_some (image captured.bytes)
 abbrev pub wkp_capture : List Captured → List ℕ
 wkp_capture records = output_head ++ flat_map written records
 
--- The end line: records read from the left and from the right, packets written to the left and to the right, and drops.
-abbrev pub end_line : (read_left read_right written_left written_right drops : ℕ) → List ℕ
-end_line read_left read_right written_left written_right drops =
-    codes "end " ++ decimal read_left ++ codes " " ++ decimal read_right ++ codes " " ++ decimal written_left
-    ++ codes " " ++ decimal written_right ++ codes " " ++ decimal drops ++ 10 ∷ []
+-- what it counts: records read from the left, packets written to the right, and drops
+abbrev pub totals : (read written drops : ℕ) → Totals
+totals read written drops = record { left_read = read; right_read = 0; left = 0; right = written; dropped = drops }
 
 abbrev pub wkp_line : List Captured → List ℕ
 wkp_line records =
-    end_line (length records) 0 0 (count_by is_carried records) (count_by (λ captured. not (is_carried captured)) records)
+    end_line
+    (totals (length records) (count_by is_carried records) (count_by (λ captured. not (is_carried captured)) records))

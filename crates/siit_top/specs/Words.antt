@@ -4,7 +4,7 @@ use Rattle.std.specs.Str.{bytes_eq}
 use Rattle.siit_addr.specs.Texts.{both_with}
 use Rattle.siit_addr.specs.declared.addr.Prefix6.{Prefix6}
 use Rattle.siit_config.specs.Texts.{embedding_of}
-use Rattle.siit_command.specs.Words.{Address, address_of_text, is_output, number_of_text}
+use Rattle.siit_command.specs.Words.{Address, address_of_text, is_output_name, number_of_text}
 
 -- of a DNS query, the response for AAAA records, and the one for A records where it is given: the names of their files,
 -- or their bytes
@@ -28,7 +28,7 @@ pub data Command : Type 0 where
 
 -- IN OUT
 abbrev pub wkp_of : List (List ℕ) → Option Command
-wkp_of (input ∷ output ∷ []) = if is_output output (input ∷ []) then Some (wkp input output) else None
+wkp_of (input ∷ output ∷ []) = if is_output_name output (input ∷ []) then Some (wkp input output) else None
 wkp_of words = None
 
 -- CONFIG DEVICE ADDRESS
@@ -49,7 +49,7 @@ given_name word = if bytes_eq word (codes "-") then None else Some word
 -- PREFIX QUERY AAAA A OUT
 abbrev pub dns64_of : List (List ℕ) → Option Command
 dns64_of (prefix ∷ query ∷ aaaa ∷ a ∷ output ∷ []) =
-    if is_output output (query ∷ aaaa ∷ a ∷ [])
+    if is_output_name output (query ∷ aaaa ∷ a ∷ [])
     then option_map (λ p. synthesis p (messages_of query aaaa (given_name a)) output) (embedding_of prefix)
     else None
 dns64_of words = None

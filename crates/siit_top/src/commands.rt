@@ -3,7 +3,7 @@ ghost use Rattle.std.specs.Prelude.{◌≡◌, map, option_map};
 ghost use Rattle.std.specs.String.{string_bytes};
 ghost use Rattle.siit_top.specs.Promises.{Promise};
 ghost use Rattle.siit_top.specs.Read.{command_read};
-ghost use Rattle.siit_top.specs.Runs.{run_of};
+ghost use Rattle.siit_top.specs.Runs.{run_between};
 ghost use Rattle.siit_top.specs.Words.{command_of};
 
 mod discover;
@@ -75,7 +75,7 @@ pub(crate) fn run<F: Files, I: Idents>(
     out: &mut Vec<u8>,
 ) -> Status
     ensures { Promise (command_read command.entry)
-        (run_of (F.meaning files.old) (F.meaning files.new) (I.coming idents.old) (I.coming idents.new)
+        (run_between (F.meaning files.old) (F.meaning files.new) (I.coming idents.old) (I.coming idents.new)
         out.old.items out.new.items result) }
 {
     match command {

@@ -1,7 +1,5 @@
 //! The lines that the program prints.
-ghost use Rattle.std.specs.Prelude.{◌≡◌, ◌++◌, IfOk, OnOk, codes, string_bytes};
-ghost use Rattle.std.specs.Fmt.{decimal};
-ghost use Rattle.siit_top.specs.Wkp.{end_line};
+ghost use Rattle.std.specs.Prelude.{◌≡◌, IfOk, string_bytes};
 ghost use Rattle.siit_top.specs.Texts.{bad_capture_text, bad_config_text, bad_message_text, message_fault_text, status_text, too_long_text};
 
 use crate::status::{CaptureFault, End, Status};
@@ -93,31 +91,4 @@ fn message_fault_text(alloc: Global, fault: DnsFault) -> Result<String, AllocErr
         DnsFault::AnswerTooLong => String::from_str(alloc, "answer too long"),
         DnsFault::NoMemory => Ok(String::new(alloc)),
     }
-}
-
-/// The line at the end of a run: records read from the left and from the right, packets written to the left and to the
-/// right, and drops.
-pub(crate) fn end_line(
-    alloc: Global,
-    read: (u64, u64),
-    written: (u64, u64),
-    drops: u64,
-) -> Result<String, AllocError>
-    ensures { IfOk result (λ line. string_bytes line ≡ end_line read.0 read.1 written.0 written.1 drops) }
-{
-    let mut line = String::from_str(alloc, "end")?;
-    push_count(alloc, &mut line, read.0)?;
-    push_count(alloc, &mut line, read.1)?;
-    push_count(alloc, &mut line, written.0)?;
-    push_count(alloc, &mut line, written.1)?;
-    push_count(alloc, &mut line, drops)?;
-    line.push_str("\n")?;
-    Ok(line)
-}
-
-fn push_count(alloc: Global, line: &mut String, count: u64) -> Result<(), AllocError>
-    ensures { OnOk result (string_bytes line.new ≡ string_bytes line.old ++ (codes " " ++ decimal count)) }
-{
-    line.push_str(&format!(in alloc; " {count}")?)?;
-    Ok(())
 }

@@ -2,7 +2,7 @@
 ghost use Rattle.std.specs.Prelude.{◌≡◌, ◌≢◌, ◌↔◌, map, None, IfSome};
 ghost use Rattle.std.specs.String.{string_bytes};
 ghost use Rattle.siit_top.specs.Promises.{IsComplete, Promise};
-ghost use Rattle.siit_top.specs.Runs.{run_of};
+ghost use Rattle.siit_top.specs.Runs.{run_between};
 ghost use Rattle.siit_top.specs.Words.{command_of};
 
 use crate::commands::{read_command, run};
@@ -30,10 +30,10 @@ pub fn siit_main<F: Files, I: Idents>(
 ) -> Status
     ensures bad_words { (result ≡ Status.BadWords) ↔ (command_of (map string_bytes words.now) ≡ None) }
     ensures promise { IfSome (command_of (map string_bytes words.now)) (λ command. Promise command
-        (run_of (F.meaning files.old) (F.meaning files.new) (I.coming idents.old) (I.coming idents.new)
+        (run_between (F.meaning files.old) (F.meaning files.new) (I.coming idents.old) (I.coming idents.new)
         out.old.items out.new.items result)) }
     ensures complete { IfSome (command_of (map string_bytes words.now)) (λ command. IsComplete command
-        (run_of (F.meaning files.old) (F.meaning files.new) (I.coming idents.old) (I.coming idents.new)
+        (run_between (F.meaning files.old) (F.meaning files.new) (I.coming idents.old) (I.coming idents.new)
         out.old.items out.new.items result)) }
     ensures untouched { result ≡ Status.BadWords → files.new ≡ files.old }
     ensures untaken { result ≡ Status.BadWords → idents.new ≡ idents.old }

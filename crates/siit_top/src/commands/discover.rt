@@ -7,7 +7,7 @@ ghost use Rattle.siit_top.specs.DiscoverRun.{decision_by, prefix_lines, Says};
 ghost use Rattle.siit_top.specs.Ends.{discover_status};
 ghost use Rattle.siit_top.specs.Promises.{Promise};
 ghost use Rattle.siit_top.specs.Read.{command_read};
-ghost use Rattle.siit_top.specs.Runs.{run_of};
+ghost use Rattle.siit_top.specs.Runs.{run_between};
 ghost use Rattle.siit_top.specs.Words.{discover, discover_of};
 
 use crate::commands::Command;
@@ -77,7 +77,7 @@ pub(crate) fn discover<F: Files>(
     out: &mut Vec<u8>,
 ) -> DiscoverEnd
     ensures { (coming : ℕ → ℕ → ℕ) → Promise (discover answer.now)
-        (run_of (F.meaning files.old) (F.meaning files.new) coming coming
+        (run_between (F.meaning files.old) (F.meaning files.new) coming coming
         out.old.items out.new.items (discover_status result)) }
 {
     match read_whole(alloc, files, answer, MOST_MESSAGE) {

@@ -10,14 +10,14 @@ ghost use Rattle.siit_top.specs.Dns64Seen.{bytes_seen};
 ghost use Rattle.siit_top.specs.Ends.{dns64_status};
 ghost use Rattle.siit_top.specs.Promises.{Promise};
 ghost use Rattle.siit_top.specs.Read.{command_read};
-ghost use Rattle.siit_top.specs.Runs.{run_of, IsStopped};
+ghost use Rattle.siit_top.specs.Runs.{run_between, IsStopped};
 ghost use Rattle.siit_top.specs.Words.{dns64_of, given_name, messages_of, synthesis};
 
 use crate::commands::Command;
 use crate::commands::ends::{Stopped, unread_status};
 use crate::status::Status;
 use siit_addr::read_prefix6;
-use siit_command::{Unread, is_output, read_whole};
+use siit_command::{Unread, is_output_name, read_whole};
 use siit_dns::DnsFault;
 use siit_dns64::{Answered, Dns64Fault, synthesize};
 use siit_rfc6052::Embed;
@@ -94,7 +94,7 @@ pub(crate) fn read_dns64(words: &[String]) -> Option<Command<'_>>
     let [prefix, query, aaaa, a, output] = words else {
         return None;
     };
-    if !is_output(
+    if !is_output_name(
         output.as_str(),
         &[query.as_str(), aaaa.as_str(), a.as_str()],
     ) {
@@ -140,7 +140,7 @@ pub(crate) fn dns64<F: Files>(
 ) -> Dns64End
     ensures { (coming : ℕ → ℕ → ℕ) → Promise
         (synthesis prefix (messages_of query.now aaaa.now (option_map (λ name. name.now) a.entry)) output.now)
-        (run_of (F.meaning files.old) (F.meaning files.new) coming coming
+        (run_between (F.meaning files.old) (F.meaning files.new) coming coming
         out.old.items out.new.items (dns64_status result)) }
 {
     let messages = match read_messages(alloc, files, query, aaaa, a) {

@@ -8,7 +8,7 @@ ghost use Rattle.siit_top.specs.MapLine.{map_line};
 ghost use Rattle.siit_top.specs.MapRun.{decision_by, device_at, Says};
 ghost use Rattle.siit_top.specs.Promises.{Promise};
 ghost use Rattle.siit_top.specs.Read.{command_read};
-ghost use Rattle.siit_top.specs.Runs.{run_of};
+ghost use Rattle.siit_top.specs.Runs.{run_between};
 ghost use Rattle.siit_top.specs.Words.{map_address, map_of};
 
 use crate::commands::Command;
@@ -86,7 +86,7 @@ pub(crate) fn map<F: Files>(
     out: &mut Vec<u8>,
 ) -> MapEnd
     ensures { (coming : ℕ → ℕ → ℕ) → Promise (map_address configuration.now device (address_read address))
-        (run_of (F.meaning files.old) (F.meaning files.new) coming coming
+        (run_between (F.meaning files.old) (F.meaning files.new) coming coming
         out.old.items out.new.items (map_status result)) }
 {
     match read_whole(alloc, files, configuration, MOST_CONFIGURATION) {

@@ -2,22 +2,23 @@
 ghost use Rattle.std.specs.Prelude.{◌≡◌, ℕ, ◌≤◌, ◌++◌, length, map, option_map, true, is_some, IfErr, OnOk, OnErr};
 ghost use Rattle.std.specs.String.{string_bytes};
 ghost use Rattle.siit_word.specs.Files.{Written, WrittenPart};
+ghost use Rattle.siit_chain.specs.Texts.{end_line};
 ghost use Rattle.siit_top.specs.PlainCapture.{records_of};
 ghost use Rattle.siit_top.specs.Ends.{wkp_status};
 ghost use Rattle.siit_top.specs.Promises.{Promise};
 ghost use Rattle.siit_top.specs.Read.{command_read};
-ghost use Rattle.siit_top.specs.Runs.{run_of, IsStopped};
+ghost use Rattle.siit_top.specs.Runs.{run_between, IsStopped};
 ghost use Rattle.siit_top.specs.Turns.{records_read};
-ghost use Rattle.siit_top.specs.Wkp.{end_line, wkp_capture, wkp_line};
+ghost use Rattle.siit_top.specs.Wkp.{totals, wkp_capture, wkp_line};
 ghost use Rattle.siit_top.specs.Words.{wkp, wkp_of};
 
 use crate::capture::is_plain;
 use crate::carry::{Counts, write_capture};
 use crate::commands::Command;
 use crate::commands::ends::{Stopped, unread_status};
-use crate::lines::end_line;
 use crate::status::{CaptureFault, End, Status};
-use siit_command::{Unread, is_output, read_whole};
+use siit_chain::end_line;
+use siit_command::{Unread, is_output_name, read_whole};
 use siit_views::PacketBuf;
 use siit_word::Files;
 use std::alloc::{AllocError, Global};
@@ -67,7 +68,7 @@ pub(crate) fn read_wkp(words: &[String]) -> Option<Command<'_>>
     let [input, output] = words else {
         return None;
     };
-    if is_output(output.as_str(), &[input.as_str()]) {
+    if is_output_name(output.as_str(), &[input.as_str()]) {
         Some(Command::Wkp { input, output })
     } else {
         None
@@ -84,7 +85,7 @@ pub(crate) fn wkp<F: Files>(
     out: &mut Vec<u8>,
 ) -> WkpEnd
     ensures { (coming : ℕ → ℕ → ℕ) → Promise (wkp input.now output.now)
-        (run_of (F.meaning files.old) (F.meaning files.new) coming coming
+        (run_between (F.meaning files.old) (F.meaning files.new) coming coming
         out.old.items out.new.items (wkp_status result)) }
 {
     let capture = match read_whole(alloc, files, input, MOST_CAPTURE) {
@@ -125,18 +126,23 @@ fn carry<F: Files>(
     let Ok(counts) = write_capture(files, output, &mut buf, capture) else {
         return Err(Stopped::Failed);
     };
-    let Ok(()) = append_line(alloc, &counts, out) else {
+    let Ok(()) = append_line(&counts, out) else {
         return Err(Stopped::NoMemory);
     };
     Ok(())
 }
 
 // Appends the end line of these counts.
-fn append_line(alloc: Global, counts: &Counts, out: &mut Vec<u8>) -> Result<(), AllocError>
-    ensures ok { OnOk result
-        (out.new.items ≡ out.old.items ++ end_line counts.now.read 0 0 counts.now.written counts.now.drops) }
+fn append_line(counts: &Counts, out: &mut Vec<u8>) -> Result<(), AllocError>
+    ensures ok { OnOk result (out.new.items
+        ≡ out.old.items ++ end_line (totals counts.now.read counts.now.written counts.now.drops)) }
     ensures err { OnErr result (out.new.items ≡ out.old.items) }
 {
-    let line = end_line(alloc, (counts.read, 0), (0, counts.written), counts.drops)?;
-    out.extend_from_slice(line.as_bytes())
+    let written = siit_chain::Counts {
+        left: 0,
+        right: counts.written,
+        dropped: counts.drops,
+    };
+    let line = end_line(counts.read, 0, written);
+    out.extend_from_slice(line.as_str().as_bytes())
 }

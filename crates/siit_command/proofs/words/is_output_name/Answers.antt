@@ -1,6 +1,6 @@
 use Rattle.std.proofs.Common.{sym, ◌∙◌}
 use Rattle.siit_command.proofs.Names.{among_more}
-use Rattle.siit_command.proofs.words.is_output.Goals as goal
+use Rattle.siit_command.proofs.words.is_output_name.Goals as goal
 
 pub loop-rest-preserved : goal.loop-rest-preserved
 loop-rest-preserved c =
