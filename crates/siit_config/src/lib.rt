@@ -16,6 +16,7 @@ mod unknown;
 pub use chain::read_config;
 pub use examples::configuration_examples;
 pub use fault::ConfigFault;
+pub use names::embedding_of;
 
 #[cfg(test)]
 mod tests;

@@ -51,8 +51,8 @@ pub(crate) fn clean_prefix_of(text: &str) -> Option<Prefix4>
     }
 }
 
-/// A prefix under which IPv4 addresses are embedded (RFC 6052 section 2.2).
-pub(crate) fn embedding_of(text: &str) -> Option<Embed>
+/// The prefix that a text writes, where IPv4 addresses are embedded under such a prefix (RFC 6052 section 2.2).
+pub fn embedding_of(text: &str) -> Option<Embed>
     ensures { result ≡ embedding_of text.now }
 {
     Embed::new(read_prefix6(text)?).ok()

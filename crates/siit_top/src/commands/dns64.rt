@@ -2,7 +2,6 @@
 ghost use Rattle.std.specs.Prelude.{◌≡◌, ◌≤◌, ℕ, [], ◌∷◌, ◌++◌, length, map, option_map, IfErr, IfOk, OnErr, OnOk};
 ghost use Rattle.std.specs.Option.{ForSome};
 ghost use Rattle.std.specs.String.{string_bytes};
-ghost use Rattle.siit_config.specs.Texts.{embedding_of};
 ghost use Rattle.siit_word.specs.Files.{Touches, WriteFailed, Written, WrittenPart};
 ghost use Rattle.siit_dns64.specs.Dns64.{dns64, Gives};
 ghost use Rattle.siit_top.specs.Dns64Run.{answer_line, files_of, message_word, AreShort, IsUnreadAt, WereRead};
@@ -16,8 +15,8 @@ ghost use Rattle.siit_top.specs.Words.{dns64_of, given_name, messages_of, synthe
 use crate::commands::Command;
 use crate::commands::ends::{Stopped, unread_status};
 use crate::status::Status;
-use siit_addr::read_prefix6;
 use siit_command::{Unread, is_output_name, read_whole};
+use siit_config::embedding_of;
 use siit_dns::DnsFault;
 use siit_dns64::{Answered, Dns64Fault, synthesize};
 use siit_rfc6052::Embed;
@@ -100,7 +99,7 @@ pub(crate) fn read_dns64(words: &[String]) -> Option<Command<'_>>
     ) {
         return None;
     }
-    let prefix = read_embed(prefix.as_str())?;
+    let prefix = embedding_of(prefix.as_str())?;
     Some(Command::Dns64 {
         prefix,
         query: query.as_str(),
@@ -108,14 +107,6 @@ pub(crate) fn read_dns64(words: &[String]) -> Option<Command<'_>>
         a: a.as_str(),
         output: output.as_str(),
     })
-}
-
-// The prefix that a text writes, if addresses are embedded under it.
-fn read_embed(text: &str) -> Option<Embed>
-    ensures { result ≡ embedding_of text.now }
-{
-    let prefix = read_prefix6(text)?;
-    Embed::new(prefix).ok()
 }
 
 /// The name of a file, which isn't given where it is `-`.
