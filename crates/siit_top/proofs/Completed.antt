@@ -19,6 +19,7 @@ use Rattle.siit_top.specs.WkpRun.{judgement, not_built, WkpAnswer}
 use Rattle.siit_top.specs.Words.{Command, discover, map_address, messages_of, synthesis, wkp, Messages}
 use Rattle.siit_top.specs.declared.status.Status.{Status}
 use Rattle.siit_top.specs.declared.status.Status.TheVariants.{Ok, BadWords, BadConfig, ReadFault, WriteFault, BadCapture, BadMessage, NoMemory, TooLong, NoDevice}
+use Rattle.siit_top.proofs.Dns64Reads.{first_long_held}
 
 judged_within : (bytes : List ℕ) (b : Bool) → length bytes ≤ 4294967296 → is_some (records_of bytes) ≡ b → judgement bytes ≡ (if b then Ok else not_built)
 judged_within bytes b within is =
@@ -116,7 +117,7 @@ dns64_long : (word : ℕ) (prefix : Prefix6) (names : Messages) (output : List �
 dns64_long word prefix names output run is a told =
     let held_now : Messages = dns.messages_held run.before names in
     let long : dns.decision prefix held_now ≡ dns.too_long word =
-    ap (λ (l : Option ℕ). dns.decision_at l (dns64 held_now.query held_now.aaaa held_now.a (prefix ∷ []))) (a.long told) in
+    ap (λ (l : Option ℕ). dns.decision_at l (dns64 held_now.query held_now.aaaa held_now.a (prefix ∷ []))) (first_long_held a.long told) in
     subst (λ (s : Status). dns.Says output run s (dns.decision prefix held_now)) (sym is) long
 
 dns64_decided : (prefix : Prefix6) (names : Messages) (output : List ℕ) (run : Run) (s : Status) → run.status ≡ s → dns.Dns64Answer prefix names output run s → AllTold (dns.files_of names) run.before → (s ≡ ReadFault → ⊥) → (s ≡ WriteFault → ⊥) → Decided (synthesis prefix names output) run ⊎ (run.status ≡ NoMemory)

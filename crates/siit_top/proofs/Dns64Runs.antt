@@ -18,7 +18,7 @@ use Rattle.siit_top.specs.Words.{synthesis, Messages}
 use Rattle.siit_top.specs.declared.commands.ends.Stopped.{Stopped}
 use Rattle.siit_top.specs.declared.commands.ends.Stopped.TheVariants as stopped
 use Rattle.siit_top.specs.declared.status.Status.TheVariants.{Ok as Done, BadMessage, NoMemory, ReadFault, TooLong, WriteFault}
-use Rattle.siit_top.proofs.Dns64Reads.{none_long, were_short}
+use Rattle.siit_top.proofs.Dns64Reads.{none_long, some_rose, were_short}
 
 -- only messages were read
 unwritten : {before after : FilesMeaning} {reads : List (List ℕ)} → Touches before after reads [] → Stays before.contents after.contents
@@ -32,8 +32,8 @@ both {before} {mid} {after} {reads} {output} only written = touches_then (among_
 
 not_read : {before after : FilesMeaning} {coming : ℕ → ℕ → ℕ} {prefix : Prefix6} {names : Messages} {output out : List ℕ} (word : ℕ) → Touches before after (files_of names) [] → IsUnreadAt before after names word unread.Failed → Promise (synthesis prefix names output) (run_between before after coming coming out out ReadFault)
 not_read {output = output} word only cause = record {
-  answer = unwritten only;
-  read_fault = λ is. cause;
+  answer = record { failed = cause; unwritten = unwritten only };
+  read_fault = λ is. some_rose cause;
   write_fault = λ is. cc;
   only = among_both output only;
   idents = λ device k. refl;

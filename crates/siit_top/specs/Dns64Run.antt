@@ -1,16 +1,16 @@
 -- What `dns64 PREFIX QUERY AAAA A OUT` prints and promises, by its status.
-use Rattle.std.specs.Prelude.{◌≡◌, ◌⊎◌, ℕ, ◌≤◌, List, [], ◌∷◌, ◌++◌, length, codes, option_map, option_to_list, ◌==◌, nat_lt, if◌then◌else◌, Option, Some, None, Result, Ok, Err}
+use Rattle.std.specs.Prelude.{◌≡◌, ◌⊎◌, ℕ, zero, suc, ◌≤◌, List, [], ◌∷◌, ◌++◌, length, codes, option_map, option_to_list, ◌==◌, nat_lt, if◌then◌else◌, Option, Some, None, Result, Ok, Err}
 use Rattle.std.specs.Fmt.{decimal}
 use Rattle.siit_addr.specs.declared.addr.Prefix6.{Prefix6}
-use Rattle.siit_command.specs.Reading.{WasRead}
+use Rattle.siit_command.specs.Reading.{IsLonger, WasRead}
 use Rattle.siit_command.specs.declared.reading.Unread.{Unread}
 use Rattle.siit_command.specs.declared.reading.Unread.TheVariants as unread
 use Rattle.siit_dns.specs.declared.fault.DnsFault.{DnsFault}
 use Rattle.siit_dns64.specs.Answers as dns
 use Rattle.siit_dns64.specs.Dns64.{dns64}
 use Rattle.siit_dns64.specs.declared.fault.Dns64Fault.{Dns64Fault}
-use Rattle.siit_word.specs.Files.{held, FilesMeaning, Holds, HoldsPart}
-use Rattle.siit_top.specs.Runs.{AllTold, Run, SomeRose, Unwritten}
+use Rattle.siit_word.specs.Files.{held, FilesMeaning, Holds, HoldsPart, ReadFailed}
+use Rattle.siit_top.specs.Runs.{Run, Unwritten}
 use Rattle.siit_top.specs.Words.{Messages}
 use Rattle.siit_top.specs.declared.status.Status.{Status}
 use Rattle.siit_top.specs.declared.status.Status.TheVariants as status
@@ -102,11 +102,33 @@ pub record WereRead (files : FilesMeaning) (names messages : Messages) : Type 0 
   pub aaaa : WasRead files names.aaaa 65535 messages.aaaa
   pub a : WasReadIfGiven files names.a messages.a
 
+-- The file was read to its end as a message, which has at most as many bytes as one may have.
+abbrev pub IsReadAsMessage : FilesMeaning → (name : List ℕ) → Type 0
+IsReadAsMessage files name = (bytes : List ℕ) × WasRead files name 65535 bytes
+
+-- This holds of the file at this place, counted from 0, and those before it were read as messages.
+abbrev pub HoldsFirst : (List ℕ → Type 0) → FilesMeaning → (names : List (List ℕ)) → (place : ℕ) → Type 0
+HoldsFirst P files [] place = ⊥
+HoldsFirst P files (name ∷ names) zero = P name
+HoldsFirst P files (name ∷ names) (suc place) = IsReadAsMessage files name × HoldsFirst P files names place
+
+-- The message of this word is the first that is too long. Each fact needs only that its own file is told, and none
+-- speaks of the files behind it.
+pub record IsLongAt (files : FilesMeaning) (names : Messages) (word : ℕ) : Type 0 where
+  pub which : ℕ
+  pub word_of : word ≡ message_word which
+  pub long : HoldsFirst (λ name. IsLonger files name 65535) files (files_of names) which
+
+-- Reading the file of a message failed, once those before it were read.
+pub record IsReadFault (before after : FilesMeaning) (names : Messages) : Type 0 where
+  pub which : ℕ
+  pub failed : HoldsFirst (ReadFailed before after) before (files_of names) which
+
 -- why the file of this word wasn't read
 abbrev pub IsUnreadAt : (before after : FilesMeaning) (names : Messages) (word : ℕ) → Unread → Type 0
-IsUnreadAt before after names word unread.Failed = SomeRose (files_of names) before.read_faults after.read_faults
+IsUnreadAt before after names word unread.Failed = IsReadFault before after names
 IsUnreadAt before after names word unread.NoMemory = Unit {0}
-IsUnreadAt before after names word unread.TooLong = AllTold (files_of names) before → first_long (messages_held before names) ≡ Some word
+IsUnreadAt before after names word unread.TooLong = IsLongAt before names word
 
 -- The files were read as these messages, which decide the status.
 pub record AreRead (prefix : Prefix6) (names : Messages) (output : List ℕ) (run : Run) : Type 0 where
@@ -127,16 +149,21 @@ pub record AnswersPart (prefix : Prefix6) (names : Messages) (output : List ℕ)
   pub decides : decision prefix messages ≡ answers answer
   pub part : HoldsPart run.before run.after output answer.bytes
 
--- The file of this word is the first that has more bytes than a message may have, and nothing was written.
+-- The message of this word is the first that is too long, and nothing was written.
 pub record IsLongMessage (word : ℕ) (names : Messages) (run : Run) : Type 0 where
-  pub long : AllTold (files_of names) run.before → first_long (messages_held run.before names) ≡ Some word
+  pub long : IsLongAt run.before names word
+  pub unwritten : Unwritten run
+
+-- A message wasn't read, and nothing was written.
+pub record IsUnreadMessage (names : Messages) (run : Run) : Type 0 where
+  pub failed : IsReadFault run.before run.after names
   pub unwritten : Unwritten run
 
 -- what holds after each status; others don't come
 abbrev pub Dns64Answer : Prefix6 → (names : Messages) (output : List ℕ) → Run → Status → Type 0
 Dns64Answer prefix names output run status.Ok = AreRead prefix names output run
 Dns64Answer prefix names output run (status.BadMessage word fault) = AreRefused prefix names output run
-Dns64Answer prefix names output run status.ReadFault = Unwritten run
+Dns64Answer prefix names output run status.ReadFault = IsUnreadMessage names run
 Dns64Answer prefix names output run status.WriteFault = AnswersPart prefix names output run
 Dns64Answer prefix names output run status.NoMemory = Unwritten run ⊎ AnswersPart prefix names output run
 Dns64Answer prefix names output run (status.TooLong word) = IsLongMessage word names run
