@@ -12,7 +12,7 @@ use Rattle.siit_quoted.specs.Refusals.{quote_refusal4}
 use Rattle.siit_roles.specs.declared.settings.Settings.{Settings}
 use Rattle.siit_views.specs.Headers.{HasLengths4}
 use Rattle.siit_device.specs.Addresses.{to6}
-use Rattle.siit_device.specs.Arrival4.{is_error4, quoted_part4}
+use Rattle.siit_device.specs.Arrival4.{is_error4, is_misshapen4, quoted_part4}
 use Rattle.siit_device.specs.Forward.{lacks_checksum}
 use Rattle.siit_arrival4.specs.declared.arrived.Arrived4.{Arrived4}
 use Rattle.siit_arrival4.specs.declared.arrived.Error4.{Error4}
@@ -71,6 +71,7 @@ pub record HasArrived4 (settings : Settings) (bytes : List ℕ) (arrived : Arriv
   pub header_len : arrived.header_len ≡ header_length_in bytes
   pub total : arrived.total ≡ total_length_in bytes
   pub alive : 2 ≤ (ipv4_fields bytes).ttl
+  pub shape : is_misshapen4 (ipv4_fields bytes) ≡ false
   pub protocol : arrived.protocol ≡ (ipv4_fields bytes).protocol
   pub old : AreAddresses4 (ipv4_fields bytes).source (ipv4_fields bytes).destination arrived.old
   pub new : AreMapped6 settings (ipv4_fields bytes).source (ipv4_fields bytes).destination arrived.new

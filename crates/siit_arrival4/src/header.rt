@@ -5,7 +5,7 @@ ghost use Rattle.siit_device.specs.Rows.{first_of};
 ghost use Rattle.siit_device.specs.Rules4.{header_rows4};
 ghost use Rattle.siit_model.specs.Ipv4.{ipv4_fields};
 ghost use Rattle.siit_views.specs.Headers.{HasLengths4};
-ghost use Rattle.std.specs.Prelude.{◌≡◌, ◌≤◌, ◌==◌, None};
+ghost use Rattle.std.specs.Prelude.{◌≡◌, ◌≤◌, ◌==◌, false, None};
 
 use crate::options::has_route;
 use crate::shape::is_misshapen;
@@ -16,12 +16,13 @@ use siit_views::Ipv4Header;
 /// The Internet Group Management Protocol (RFC 1112).
 const IGMP: u8 = 2;
 
-/// The first of these rules that holds. A packet for which none holds has a TTL of at least 2.
+/// The first of these rules that holds. A packet for which none holds has a TTL of at least 2 and isn't misshapen.
 #[tactic(auto, unfolding(siit_device::specs::Rules4::header_rows4))]
 pub(crate) fn header_rule(header: &Ipv4Header<'_>) -> Option<Rule>
     requires { HasLengths4 header.now }
     ensures rule { result ≡ first_of header_rows4 (ipv4_fields header.now) }
     ensures alive { result ≡ None → 2 ≤ (ipv4_fields header.now).ttl }
+    ensures shape { result ≡ None → model.is_misshapen4 (ipv4_fields header.now) ≡ false }
 {
     if is_no_host(header.src()) {
         return Some(Rule::BadSource4);
