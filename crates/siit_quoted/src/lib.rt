@@ -24,6 +24,7 @@ pub use laws::{
     whole_quote_comes_back,
 };
 pub use multipart::{extension, quote_part};
+pub use part::accepted_walk;
 pub use sums::{
     Sums, cut_last_difference, cut_quote_difference, cut_sums, moved_by_body_difference,
     upper_behind_stays,

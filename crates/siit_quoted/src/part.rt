@@ -25,7 +25,7 @@ pub(crate) fn quote_in(bytes: &[u8], at: usize, ext: Option<u16>) -> &[u8]
 }
 
 /// The walk over the extension headers of a quote that is accepted.
-pub(crate) fn accepted_walk(quote: &[u8]) -> Walk
+pub fn accepted_walk(quote: &[u8]) -> Walk
     requires { quote_refusal6 quote.now ≡ None }
     ensures walk { walk_in quote.now ≡ Ok (walked result) }
     ensures quote { HasQuote6 (walked result) quote.now }
