@@ -1,5 +1,4 @@
 pub mod Arrived
 pub mod Kinds
 pub mod Parts
-pub mod Answered
 pub mod Unruled

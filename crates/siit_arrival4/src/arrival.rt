@@ -1,7 +1,7 @@
 //! All rules on IPv4 arrival in their order.
 ghost use Rattle.siit_arrival4.specs.Arrived.{HasArrived4, HasUpper4};
 ghost use Rattle.siit_arrival4.specs.Kinds.{HasKind4};
-ghost use Rattle.siit_arrival4.specs.Answered.{is_answered};
+ghost use Rattle.siit_device.specs.Answered.{is_answered};
 ghost use Rattle.siit_device.specs.Rows.{first_of};
 ghost use Rattle.siit_device.specs.Rules4.{first_rule4, quote_rows4};
 ghost use Rattle.siit_model.specs.Ipv4.{ipv4_fields};

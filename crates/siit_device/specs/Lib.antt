@@ -13,3 +13,4 @@ pub mod Answers
 pub mod Outcome
 pub mod Examples
 pub mod HairpinExamples
+pub mod Answered

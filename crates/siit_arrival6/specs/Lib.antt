@@ -1,0 +1,5 @@
+pub mod Arrived
+pub mod Parts
+pub mod Kinds
+pub mod Sizes
+pub mod Unruled
