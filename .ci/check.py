@@ -7,8 +7,6 @@ from pathlib import Path
 TOP = Path(__file__).resolve().parent.parent
 LIMIT = 120
 AT_TOP = {'README.md', 'HANDLES', 'crates.txt', 'siit', '.gitignore', '.gitattributes', '.ci', 'docs', 'examples', 'crates', '.git'}
-# Words that stand in two crates and are still to be told apart.
-TWICE = {'ends_between', 'error4', 'error6'}
 NAME = r"[A-Za-z_][\w'◌-]*"
 faults = []
 
@@ -77,7 +75,7 @@ def check_words(names):
     contract_words = set().union(*(cited(crate) for crate in names))
     for crate in names:
         for word, spec in defined(crate).items():
-            if word in homes and homes[word] != crate and word in contract_words - TWICE:
+            if word in homes and homes[word] != crate and word in contract_words:
                 fault(spec, f'the word {word}, which public contracts cite, stands in {homes[word]} too')
             homes.setdefault(word, crate)
     for crate in names:

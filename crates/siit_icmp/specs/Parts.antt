@@ -27,8 +27,8 @@ one_code_to_6 kind code =
     else None
 
 -- an ICMPv6 error with what its type and code say of bytes 4 to 7
-abbrev pub error6 : (kind code : ℕ) → NewKind
-error6 kind code = new kind code (if kind == 2 then Mtu else if kind == 4 then (if code == 0 then Pointer else PointerSix) else Length)
+abbrev pub error_row_to_6 : (kind code : ℕ) → NewKind
+error_row_to_6 kind code = new kind code (if kind == 2 then Mtu else if kind == 4 then (if code == 0 then Pointer else PointerSix) else Length)
 
 -- the errors of ICMPv6 that are translated whatever their code is: Packet Too Big, and Time Exceeded
 abbrev pub any_code_to_4 : (kind code : ℕ) → Option NewKind
@@ -46,5 +46,5 @@ one_code_to_4 kind code =
 
 -- An ICMPv4 error with what its type and code say of bytes 4 to 7. An unknown next header is an unreachable protocol,
 -- which has no quote with a length.
-abbrev pub error4 : (kind code : ℕ) → NewKind
-error4 kind code = new kind code (if kind == 12 then Pointer else if code == 2 then Zero else Length)
+abbrev pub error_row_to_4 : (kind code : ℕ) → NewKind
+error_row_to_4 kind code = new kind code (if kind == 12 then Pointer else if code == 2 then Zero else Length)

@@ -2,7 +2,7 @@
 ghost use Rattle.std.specs.Prelude.{◌≡◌, option_map};
 ghost use Rattle.siit_icmp.specs.Icmp.{icmp_to_4, icmp_to_6, new};
 ghost use Rattle.siit_icmp.specs.declared.kinds.Rest.TheVariants.{Same};
-ghost use Rattle.siit_icmp.specs.Parts.{any_code_to_4, any_code_to_6, echo_row_to_4, echo_row_to_6, error4, error6, one_code_to_4, one_code_to_6, pair_of};
+ghost use Rattle.siit_icmp.specs.Parts.{any_code_to_4, any_code_to_6, echo_row_to_4, echo_row_to_6, error_row_to_4, error_row_to_6, one_code_to_4, one_code_to_6, pair_of};
 
 use siit_rules::{Rule, cases};
 
@@ -190,7 +190,7 @@ fn pair64(kind: u8, code: u8) -> Option<u16>
 
 /// An ICMPv6 error, with what bytes 4 to 7 hold by its type and code.
 fn new_error6(kind: u8, code: u8) -> NewKind
-    ensures { result ≡ error6 kind code }
+    ensures { result ≡ error_row_to_6 kind code }
 {
     let rest = match (kind, code) {
         (2, _) => Rest::Mtu,
@@ -203,7 +203,7 @@ fn new_error6(kind: u8, code: u8) -> NewKind
 
 /// An ICMPv4 error likewise.
 fn new_error4(kind: u8, code: u8) -> NewKind
-    ensures { result ≡ error4 kind code }
+    ensures { result ≡ error_row_to_4 kind code }
 {
     let rest = match (kind, code) {
         (12, _) => Rest::Pointer,

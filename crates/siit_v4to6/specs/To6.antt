@@ -57,8 +57,8 @@ packet6 asked f = record (plain_packet6 f) { next = first_header asked f; body =
 -- THE UPPER PART
 
 -- the addresses of one packet on both sides
-abbrev pub ends_between : Addresses4 → Addresses6 → Ends
-ends_between old new = record {
+abbrev pub ends_4_to_6 : Addresses4 → Addresses6 → Ends
+ends_4_to_6 old new = record {
   source4 = old.src.0;
   destination4 = old.dst.0;
   source6 = new.src.0;

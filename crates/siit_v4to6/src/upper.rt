@@ -1,5 +1,5 @@
 //! The upper part of a packet on its way to IPv6: transport checksums and ICMP echo (RFC 7915 sections 4.5 and 4.2).
-ghost use Rattle.siit_v4to6.specs.To6.{echo_to_6, ends_between, udp_checksum6, upper_to_6};
+ghost use Rattle.siit_v4to6.specs.To6.{echo_to_6, ends_4_to_6, udp_checksum6, upper_to_6};
 ghost use Rattle.std.specs.Prelude.{◌≡◌, ◌<◌, ◌≤◌, ◌++◌, length, take, drop};
 
 use siit_addr::{Addr6, Addresses4, Addresses6};
@@ -11,7 +11,7 @@ use siit_upper::{ICMP, ICMPV6, TCP, UDP, move_echo, move_tcp, move_udp};
 /// ones. `whole_len` is the upper part's length in bytes as sent. A checksum field that isn't whole in the part stays,
 /// and so does a UDP checksum of 0. ICMP other than echo and all other protocols stay.
 pub fn upper46(protocol: u8, part: &mut [u8], old: Addresses4, new: Addresses6, whole_len: u16)
-    ensures { part.new ≡ upper_to_6 protocol (ends_between old new) whole_len part.old }
+    ensures { part.new ≡ upper_to_6 protocol (ends_4_to_6 old new) whole_len part.old }
 {
     match protocol {
         TCP => move_tcp(
@@ -42,7 +42,7 @@ pub fn upper46_behind(
     whole_len: u16,
 )
     requires { at ≤ length bytes.old }
-    ensures { bytes.new ≡ take at bytes.old ++ upper_to_6 protocol (ends_between old new) whole_len (drop at bytes.old) }
+    ensures { bytes.new ≡ take at bytes.old ++ upper_to_6 protocol (ends_4_to_6 old new) whole_len (drop at bytes.old) }
 {
     upper46(protocol, &mut bytes[at..], old, new, whole_len);
 }

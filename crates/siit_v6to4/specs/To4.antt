@@ -62,8 +62,8 @@ header_to_4 head f = record f { common = common_to_4 head f.common; id = head.id
 -- THE UPPER PART
 
 -- the addresses of one packet on both sides
-abbrev pub ends_between : Addresses6 → Addresses4 → Ends
-ends_between old new = record {
+abbrev pub ends_6_to_4 : Addresses6 → Addresses4 → Ends
+ends_6_to_4 old new = record {
   source4 = new.src.0;
   destination4 = new.dst.0;
   source6 = old.src.0;

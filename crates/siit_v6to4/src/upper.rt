@@ -1,5 +1,5 @@
 //! The upper part of a packet on its way to IPv4: transport checksums and ICMP echo (RFC 7915 sections 5.5 and 5.2).
-ghost use Rattle.siit_v6to4.specs.To4.{echo_to_4, ends_between, upper_to_4};
+ghost use Rattle.siit_v6to4.specs.To4.{echo_to_4, ends_6_to_4, upper_to_4};
 ghost use Rattle.std.specs.Prelude.{◌≡◌, ◌≤◌, ◌++◌, length, take, drop};
 
 use siit_addr::{Addresses4, Addresses6};
@@ -11,7 +11,7 @@ use siit_upper::{ICMPV6, TCP, UDP, move_echo, move_tcp, move_udp};
 /// ones. `whole_len` is the upper part's length in bytes as sent. A checksum field that isn't whole in the part stays,
 /// and so does a UDP checksum of 0. ICMPv6 other than echo and all other protocols stay.
 pub fn upper64(protocol: u8, part: &mut [u8], old: Addresses6, new: Addresses4, whole_len: u16)
-    ensures { part.new ≡ upper_to_4 protocol (ends_between old new) whole_len part.old }
+    ensures { part.new ≡ upper_to_4 protocol (ends_6_to_4 old new) whole_len part.old }
 {
     match protocol {
         TCP => move_tcp(
@@ -42,7 +42,7 @@ pub fn upper64_behind(
     whole_len: u16,
 )
     requires { at ≤ length bytes.old }
-    ensures { bytes.new ≡ take at bytes.old ++ upper_to_4 protocol (ends_between old new) whole_len (drop at bytes.old) }
+    ensures { bytes.new ≡ take at bytes.old ++ upper_to_4 protocol (ends_6_to_4 old new) whole_len (drop at bytes.old) }
 {
     upper64(protocol, &mut bytes[at..], old, new, whole_len);
 }
