@@ -1,0 +1,6 @@
+mod Alone
+mod Uppers
+mod Sent
+mod KeptIs
+mod Messages
+mod ErrorIs

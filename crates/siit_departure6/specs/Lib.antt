@@ -1,0 +1,3 @@
+pub mod Departed
+pub mod Parts
+pub mod Kept
