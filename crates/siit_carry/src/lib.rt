@@ -13,3 +13,4 @@ mod toy;
 mod write;
 
 pub use chain::{Chain, ChainFault};
+pub use write::write as write_text;

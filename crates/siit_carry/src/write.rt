@@ -14,7 +14,7 @@ use siit_word::{Failed, Files, append_all};
 const MOST_BEHIND_HEAD: usize = 65_559;
 
 /// Adds bytes to the file that takes a text, if there is one.
-pub(crate) fn write<F: Files>(
+pub fn write<F: Files>(
     files: &mut F,
     outs: &Outs<'_>,
     output: Output,

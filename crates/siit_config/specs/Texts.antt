@@ -15,8 +15,8 @@ use Rattle.siit_roles.specs.declared.role.Role.{Role}
 use Rattle.siit_roles.specs.declared.role.Role.TheVariants.{Plain, Border, Edge, Customer}
 
 -- the value, if it passes
-abbrev pub only : {X : Type 0} → (X → Bool) → X → Option X
-only test x = if test x then Some x else None
+abbrev pub kept_if : {X : Type 0} → (X → Bool) → X → Option X
+kept_if test x = if test x then Some x else None
 
 -- what one of two names stands for, the first for false
 abbrev pub either_name : List ℕ → List ℕ → List ℕ → Option Bool
@@ -54,11 +54,11 @@ pool_of texts = if nat_le 1 (length texts) && nat_le (length texts) 256 then add
 
 -- an IPv4 prefix with no bit set behind its length
 abbrev pub clean_prefix_of : List ℕ → Option Prefix4
-clean_prefix_of text = option_and_then (only (λ p. is_clear_behind 32 p.len p.addr.0)) (prefix4_of_text text)
+clean_prefix_of text = option_and_then (kept_if (λ p. is_clear_behind 32 p.len p.addr.0)) (prefix4_of_text text)
 
 -- a prefix under which addresses are embedded (RFC 6052 section 2.2)
 abbrev pub embedding_of : List ℕ → Option Prefix6
-embedding_of text = option_and_then (only (λ p. is_embedding_prefix p.len p.addr.0)) (prefix6_of_text text)
+embedding_of text = option_and_then (kept_if (λ p. is_embedding_prefix p.len p.addr.0)) (prefix6_of_text text)
 
 -- a customer's prefix of local addresses, apart from the provider's
 abbrev pub is_local_to : Prefix6 → Prefix6 → Bool
@@ -66,7 +66,7 @@ is_local_to provider p =
     not (is_well_known p) && not (overlap 128 p.len p.addr.0 provider.len provider.addr.0)
 
 abbrev pub local_embedding_of : Prefix6 → List ℕ → Option Prefix6
-local_embedding_of provider text = option_and_then (only (is_local_to provider)) (embedding_of text)
+local_embedding_of provider text = option_and_then (kept_if (is_local_to provider)) (embedding_of text)
 
 -- an explicit mapping, from the texts of its two prefixes
 abbrev pub mapping_entry_of : List ℕ × List ℕ → Option Eam

@@ -1,6 +1,5 @@
 //! The body of an ICMPv6 error before it is rewritten: its quote, its extension, and what goes and comes in it (RFC
-//! 4884,
-//! RFC 1624).
+//! 4884, RFC 1624).
 ghost use Rattle.siit_model.specs.Bytes.{field8};
 ghost use Rattle.siit_icmp.specs.Icmp.{icmp_to_4};
 ghost use Rattle.siit_device.specs.Arrival6.{quoted_part6};

@@ -3,10 +3,14 @@ use Rattle.std.proofs.Common.{◌≡◌, ℕ, zero, suc, ◌+◌, ◌-◌, ◌�
 use Rattle.std.specs.Prelude.{option_map}
 use Rattle.std.proofs.lemmas.List.{take-append-drop, drop-drop}
 use Rattle.siit_word.specs.Files.{Copies, held, raised}
-use Rattle.siit_capture.specs.Readings.{Reading, fed, records_fed, records_to_come, without_record, OnNoRecord, OnNone}
+use Rattle.siit_capture.specs.Fronts.{Front, bad, cut, done, whole}
+use Rattle.siit_capture.specs.Heads.{head_front}
+use Rattle.siit_capture.specs.Readings.{Reading, behind_head, fed, records_fed, records_to_come, with_piece, without_record, IsGiven, OnNoRecord, OnNone, OnRecord}
+use Rattle.siit_capture.specs.Records.{Record}
+use Rattle.siit_capture.specs.declared.form.Form.{Form}
 use Rattle.siit_capture.specs.declared.head.Head.{Head}
 use Rattle.siit_run.specs.Ahead.{IsReadTo}
-use Rattle.siit_run.specs.Looks.{records_left, EndsSo, Finds}
+use Rattle.siit_run.specs.Looks.{records_left, EndsSo, Finds, GivesOne}
 use Rattle.siit_run.specs.declared.looking.Stop.{Stop}
 use Rattle.siit_run.specs.declared.looking.Stop.TheVariants.{Bad, Failed, TooLong}
 
@@ -76,3 +80,31 @@ on_no_record P (Some head) is h = cc
 pub on_none : (P : Type 0) (o : Option Head) → o ≡ None → OnNone (Ok o) P → P
 on_none P None is h = h
 on_none P (Some head) is h = cc
+
+head_further : (form : Option Form) (front : Front Form) (reading : Reading) → reading.place ≤ (behind_head form front reading).place
+head_further (Some form) front reading = omega arith
+head_further None done reading = omega arith
+head_further None cut reading = omega arith
+head_further None (bad fault) reading = omega arith
+head_further None (whole form behind) reading = omega arith
+
+-- a piece more takes the next item no further back
+pub piece_further : (reading : Reading) (piece : List ℕ) → reading.place ≤ (with_piece reading piece).place
+piece_further reading piece = head_further reading.form (head_front (reading.rest ++ piece)) (record reading { found = None; rest = reading.rest ++ piece })
+
+-- a record that was given behind some pieces
+pub given_one : (head : Head) (found : Record) (first old new : Reading) → IsGiven head found old new → old.count ≡ first.count → first.place ≤ old.place → GivesOne head first new
+given_one head found first old new h count place =
+    let at : new.place ≡ old.place + 16 + length found.bytes = ap (λ (r : Reading). r.place) h.reading in
+    let counted : new.count ≡ old.count + 1 = ap (λ (r : Reading). r.count) h.reading in
+    record {
+      is_head = record {
+        record_found = found;
+        given = ap (λ (r : Reading). r.found) h.reading;
+        number = h.number ∙ sym counted;
+        seconds = h.seconds;
+        nanoseconds = h.nanoseconds;
+      };
+      counted = omega (arith, counted, count);
+      further = omega (arith, at, place);
+    }

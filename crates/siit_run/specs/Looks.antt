@@ -1,5 +1,5 @@
 -- What a run finds next in a capture.
-use Rattle.std.specs.Prelude.{◌≡◌, ℕ, List, drop, Option, Some, None, Result, Ok, Err}
+use Rattle.std.specs.Prelude.{◌≡◌, ℕ, ◌+◌, ◌<◌, List, drop, Option, Some, None, Result, Ok, Err}
 use Rattle.siit_capture.specs.Captures.{Records, ended, faulty, one_more}
 use Rattle.siit_capture.specs.Readings.{Reading, fed, records_to_come}
 use Rattle.siit_capture.specs.Records.{Record}
@@ -10,6 +10,20 @@ use Rattle.siit_run.specs.declared.looking.Stop.TheVariants.{Bad, Failed, TooLon
 -- the records that are left of a capture of these bytes, of which a part was fed to a reader
 abbrev pub records_left : (bytes : List ℕ) → Reading → Records
 records_left bytes reading = records_to_come reading (drop (fed reading) bytes)
+
+-- A head tells of the record that was given last which it is, and its time.
+pub record IsHeadOf (head : Head) (reading : Reading) : Type 0 where
+  pub record_found : Record
+  pub given : reading.found ≡ Some record_found
+  pub number : head.number ≡ reading.count
+  pub seconds : head.seconds ≡ record_found.seconds
+  pub nanoseconds : head.nanos ≡ record_found.nanoseconds
+
+-- One record more was given, by its head.
+pub record GivesOne (head : Head) (old new : Reading) : Type 0 where
+  pub is_head : IsHeadOf head new
+  pub counted : new.count ≡ old.count + 1
+  pub further : old.place < new.place
 
 -- A record was next, and was given.
 pub record FindsRecord (head : Head) (bytes : List ℕ) (old new : Reading) : Type 0 where

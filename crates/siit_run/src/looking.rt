@@ -1,11 +1,11 @@
 //! The next record of a capture in a file, which is read in pieces.
-ghost use Rattle.std.specs.Prelude.{◌≡◌, ◌≢◌, ◌+◌, ◌<◌, ◌≤◌, [], ◌∷◌, ℕ, length, IsTrue, Err};
+ghost use Rattle.std.specs.Prelude.{◌≡◌, ◌≢◌, ◌+◌, ◌<◌, ◌≤◌, [], ◌∷◌, ℕ, length, IfOk, IfSome, IsTrue, None, Ok, Err};
 ghost use Rattle.siit_capture.specs.Captures.{Records, one_more};
 ghost use Rattle.siit_capture.specs.Readings.{fed, records_fed, HasNoRecord};
 ghost use Rattle.siit_capture.specs.Records.{Record};
 ghost use Rattle.siit_word.specs.Files.{held, ReadFailed, Touches};
 ghost use Rattle.siit_run.specs.Ahead.{IsReadTo};
-ghost use Rattle.siit_run.specs.Looks.{records_left, EndsSo, Finds};
+ghost use Rattle.siit_run.specs.Looks.{records_left, EndsSo, Finds, GivesOne};
 
 use siit_capture::{CaptureFault, CaptureReader, Head};
 use siit_word::Files;
@@ -38,11 +38,15 @@ pub fn look<F: Files>(
     requires size { length piece.old ≤ 65536 }
     ensures found { IsTrue ((F.meaning files.old).told name.now)
         → Finds result (held ((F.meaning files.old).contents name.now)) reader.old reader.new }
+    ensures gives { IfOk result (λ next. IfSome next (λ head. GivesOne head reader.old reader.new)) }
+    ensures all { result ≡ Ok None → IsTrue ((F.meaning files.old).told name.now)
+        → length (held ((F.meaning files.old).contents name.now)) ≤ fed reader.new }
     ensures too_long { result ≡ Err Stop.TooLong → IsTrue ((F.meaning files.old).told name.now)
         → 4294967296 < length (held ((F.meaning files.old).contents name.now)) }
     ensures cause { result ≡ Err Stop.Failed → ReadFailed (F.meaning files.old) (F.meaning files.new) name.now }
     ensures fed { IsTrue ((F.meaning files.old).told name.now) → fed reader.new ≤ length (held ((F.meaning files.old).contents name.now)) }
     ensures few { fed reader.new ≤ 4294967296 }
+    ensures more { fed reader.old ≤ fed reader.new }
     ensures read { result ≢ Err Stop.TooLong
         → IsReadTo ((F.meaning files.old).given name.now) ((F.meaning files.new).given name.now) (fed reader.new) }
     ensures ahead { IsTrue ((F.meaning files.old).told name.now) → (found : Record) (ends : ℕ) (rest : Records)

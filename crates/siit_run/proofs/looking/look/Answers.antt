@@ -6,7 +6,7 @@ use Rattle.siit_capture.specs.Records.{Record}
 use Rattle.siit_word.specs.Files.{held, raised, Copies}
 use Rattle.siit_word.proofs.Touched.{told_after, touches_then}
 use Rattle.siit_run.specs.Ahead.{IsReadTo}
-use Rattle.siit_run.proofs.Pieces.{IsPieceOf, ends_found, fed_left, on_no_record, on_none, piece_of, read_on, read_same}
+use Rattle.siit_run.proofs.Pieces.{IsPieceOf, ends_found, fed_left, given_one, on_no_record, on_none, piece_further, piece_of, read_on, read_same}
 use Rattle.siit_run.proofs.looking.look.Goals as goal
 
 pub returns-then-count-eq0-clause-found : goal.returns-then-count-eq0-clause-found
@@ -58,6 +58,9 @@ loop-fault-preserved g c =
       left = λ told. fed_left bytes old new n into (piece told).is sum same ∙ before.left told;
       inside = λ told. omega (arith, sum, (piece told).within, before.inside told);
       few = omega (arith, sum, at_is, c.if-at-count-gt-MOST_CAPTURE.false);
+      more = omega (arith, sum, before.more);
+      count = c.feed.ensures.count ∙ ap (λ (r : Reading). r.count) kept ∙ before.count;
+      place = omega (arith, before.place, ap (λ (r : Reading). r.place) kept, piece_further c.next.new.self (take n into), ap (λ (r : Reading). r.place) c.feed.ensures.reading);
       size = size;
       read =
           subst (λ place. IsReadTo (start.given name) (now.given name) place) (sym sum)

@@ -17,6 +17,9 @@ invariant-loop-fault g l =
       left : IsTrue (before.told name) → records_left bytes l.reader ≡ records_left bytes l.fn.reader;
       inside : IsTrue (before.told name) → fed l.reader ≤ length bytes;
       few : fed l.reader ≤ 4294967296;
+      more : fed l.fn.reader ≤ fed l.reader;
+      count : l.reader.count ≡ l.fn.reader.count;
+      place : l.fn.reader.place ≤ l.reader.place;
       size : length l.piece ≡ length l.fn.piece;
       read : IsReadTo (before.given name) (now.given name) (fed l.reader);
       ahead : IsTrue (before.told name) → (found : Record) (ends : ℕ) (rest : Records) → records_left bytes l.fn.reader ≡ one_more found ends rest

@@ -1,0 +1,10 @@
+pub mod Exits
+pub mod ChainsKept
+pub mod Sides
+pub mod BothLooks
+pub mod Steps
+pub mod Grows
+pub mod UnderWay
+pub mod Turning
+pub mod Stops
+pub mod Ended
