@@ -1,5 +1,5 @@
 -- An upper part whose first bytes are translated, and of which the end is cut.
-use Rattle.std.proofs.Common.{◌≡◌, ◌⊎◌, ℕ, ◌+◌, ◌-◌, ◌%◌, ◌<◌, ◌≤◌, List, [], ◌++◌, length, min, take, drop, ◌∙◌, ap, sym, subst, arith, append-nil, length-drop, take_all, inl, inr, ⊎_elim}
+use Rattle.std.proofs.Common.{◌≡◌, ◌⊎◌, ℕ, ◌+◌, ◌-◌, ◌%◌, ◌<◌, ◌≤◌, List, ◌++◌, length, min, take, drop, ◌∙◌, ap, sym, subst, arith, append-nil, length-drop, take_all, inl, inr, ⊎_elim}
 use Rattle.std.proofs.lemmas.Bool.{cases_lt}
 use Rattle.std.proofs.lemmas.List.{drop-take, length-take-le, take-append-drop, take-take}
 use Rattle.std.proofs.Math.Seq.{take-add}

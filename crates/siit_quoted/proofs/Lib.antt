@@ -12,7 +12,9 @@ pub mod Uppers
 pub mod Cuts
 pub mod Walks6
 pub mod Joined
+pub mod Padded
 pub mod ComesBack
+pub mod Returns
 pub mod Differences
 pub mod Behind
 pub mod PartSums

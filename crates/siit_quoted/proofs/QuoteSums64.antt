@@ -1,5 +1,5 @@
 -- What goes and comes where a quote goes to IPv4.
-use Rattle.std.proofs.Common.{◌≡◌, ℕ, ◌+◌, ◌-◌, ◌%◌, ◌<◌, ◌≤◌, List, ◌++◌, length, min, take, drop, replicate, Bool, true, false, ◌==◌, Option, Some, None, ◌∙◌, ap, sym, subst, refl, arith, length-append, length-drop, take_all}
+use Rattle.std.proofs.Common.{◌≡◌, ℕ, ◌+◌, ◌-◌, ◌%◌, ◌<◌, ◌≤◌, List, ◌++◌, length, min, take, drop, replicate, Bool, true, false, ◌==◌, Option, Some, None, ◌∙◌, ap, sym, subst, refl, arith, length-append, take_all}
 use Rattle.std.proofs.lemmas.List.{drop-drop, length-take-le, take-append-drop, take-take}
 use Rattle.siit_model.specs.Checksum.{residue}
 use Rattle.siit_model.specs.Extensions.{Walked}

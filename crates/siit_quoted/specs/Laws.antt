@@ -1,5 +1,5 @@
 -- Laws of quotes and of the bodies that hold them.
-use Rattle.std.specs.Prelude.{◌≡◌, ℕ, ◌+◌, ◌%◌, ◌/◌, ◌^◌, ◌<◌, ◌≤◌, ◌⊎◌, List, [], length, take, Bool, false, ◌==◌, true, if◌then◌else◌, Option, Some, None}
+use Rattle.std.specs.Prelude.{◌≡◌, ℕ, ◌+◌, ◌%◌, ◌/◌, ◌^◌, ◌<◌, ◌≤◌, ◌⊎◌, List, [], ◌++◌, length, take, replicate, Bool, false, ◌==◌, true, if◌then◌else◌, Option, Some, None}
 use Rattle.siit_model.specs.Bytes.{AreBytes, field8, field16, with_field16}
 use Rattle.siit_model.specs.Fragments.{is_whole}
 use Rattle.siit_model.specs.Ipv4.{ipv4_bytes_as}
@@ -40,10 +40,16 @@ UpperComesBack = (protocol : ℕ) (ends : Ends) (whole : ℕ) (part : List ℕ) 
     → (protocol ≡ 1 → (is_echo4 part ≡ true) × (8 ≤ length part))
     → upper_to_4 (next_header_of protocol) ends whole (upper_to_6 protocol ends whole part) ≡ spelled protocol part
 
+-- n zeros may follow a quote only where an extension is carried, which stands behind at least 128 bytes (RFC 4884
+-- section 5.1)
+abbrev pub MayBePadded : (n : ℕ) → (part : List ℕ) → Type 0
+MayBePadded n part = (n ≡ 0) ⊎ (128 ≤ length part)
+
 -- The quote that came back: its own addresses, protocol and TTL, identification 0, no options, its checksum as it is
--- written, and its end cut.
-abbrev pub come_back_whole : (tos k : ℕ) → QuotedIpv4 → List ℕ
-come_back_whole tos k quoted =
+-- written, and its end cut behind k bytes of its upper part. Zeros that followed are read as bytes of the quote, as far
+-- as its length as sent goes.
+abbrev pub come_back_whole : (tos k n : ℕ) → QuotedIpv4 → List ℕ
+come_back_whole tos k n quoted =
     ipv4_bytes_as (20 + quoted.sent)
     (record {
       tos = tos;
@@ -56,22 +62,24 @@ come_back_whole tos k quoted =
       source = quoted.packet.source;
       destination = quoted.packet.destination;
       options = [];
-      payload = take k (spelled quoted.packet.protocol quoted.packet.payload);
+      payload = take quoted.sent (take k (spelled quoted.packet.protocol quoted.packet.payload) ++ replicate n 0);
     })
 
--- A whole quote that is accepted, through any addresses and back to its own, cut behind its checksum on the way.
+-- A whole quote that is accepted, through any addresses and back to its own, on the way cut behind its checksum, with
+-- zeros behind it before an extension.
 abbrev pub WholeQuoteComesBack : Type 0
-WholeQuoteComesBack = (source destination k : ℕ) (zero6 zero4 : Bool) (part : List ℕ) → AreBytes part
+WholeQuoteComesBack = (source destination k n : ℕ) (zero6 zero4 : Bool) (part : List ℕ) → AreBytes part
     → quote_refusal4 part ≡ None → is_whole (quoted_fragment4 (quoted4_fields part)) ≡ true
-    → source < 2 ^ 128 → destination < 2 ^ 128 → 18 ≤ k →
+    → source < 2 ^ 128 → destination < 2 ^ 128 → 18 ≤ k → MayBePadded n part →
     let quoted = quoted4_fields part in
-    part_to_4 quoted.packet.source quoted.packet.destination zero4 (take (40 + k) (quote_to_6 source destination zero6 quoted))
-    ≡ come_back_whole (written_class zero4 (written_class zero6 quoted.packet.tos)) k quoted
+    let six = take (40 + k) (quote_to_6 source destination zero6 quoted) ++ replicate n 0 in
+    part_to_4 quoted.packet.source quoted.packet.destination zero4 six
+    ≡ come_back_whole (written_class zero4 (written_class zero6 quoted.packet.tos)) k n quoted
 
 -- The fragment that came back: its identification stays, and Don't Fragment is 0. A later fragment's payload stays as
 -- it is.
-abbrev pub come_back_fragment : (tos k : ℕ) → QuotedIpv4 → List ℕ
-come_back_fragment tos k quoted =
+abbrev pub come_back_fragment : (tos k n : ℕ) → QuotedIpv4 → List ℕ
+come_back_fragment tos k n quoted =
     let packet = quoted.packet in
     ipv4_bytes_as (20 + quoted.sent)
     (record {
@@ -85,19 +93,20 @@ come_back_fragment tos k quoted =
       source = packet.source;
       destination = packet.destination;
       options = [];
-      payload = take k (if packet.offset == 0 then spelled packet.protocol packet.payload else packet.payload);
+      payload = take quoted.sent
+          (take k (if packet.offset == 0 then spelled packet.protocol packet.payload else packet.payload) ++ replicate n 0);
     })
 
 -- The same for a fragment, where the device that it comes back through accepts it too.
 abbrev pub FragmentQuoteComesBack : Type 0
-FragmentQuoteComesBack = (source destination k : ℕ) (zero6 zero4 : Bool) (part : List ℕ) → AreBytes part
+FragmentQuoteComesBack = (source destination k n : ℕ) (zero6 zero4 : Bool) (part : List ℕ) → AreBytes part
     → quote_refusal4 part ≡ None → is_whole (quoted_fragment4 (quoted4_fields part)) ≡ false
-    → source < 2 ^ 128 → destination < 2 ^ 128 → 18 ≤ k →
+    → source < 2 ^ 128 → destination < 2 ^ 128 → 18 ≤ k → MayBePadded n part →
     let quoted = quoted4_fields part in
-    let six = take (48 + k) (quote_to_6 source destination zero6 quoted) in
+    let six = take (48 + k) (quote_to_6 source destination zero6 quoted) ++ replicate n 0 in
     quote_refusal6 six ≡ None
     → part_to_4 quoted.packet.source quoted.packet.destination zero4 six
-    ≡ come_back_fragment (written_class zero4 (written_class zero6 quoted.packet.tos)) k quoted
+    ≡ come_back_fragment (written_class zero4 (written_class zero6 quoted.packet.tos)) k n quoted
 
 -- what is asked of an extension that is told by its place, where one is
 abbrev pub IsCarriedIf6 : Option ℕ → List ℕ → Type 0

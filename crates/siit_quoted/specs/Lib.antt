@@ -5,5 +5,6 @@ pub mod Bodies
 pub mod Errors
 pub mod Rewriting
 pub mod Laws
+pub mod Returns
 pub mod Sums
 pub mod Examples

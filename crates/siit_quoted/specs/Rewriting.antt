@@ -33,14 +33,11 @@ quoted_upper_to_6 source destination quoted =
     let f = quoted_fragment4 quoted in
     bytes_to_6 (ends_to_6 (quote_head6 source destination false f) f.common) quoted.sent f
 
--- these bytes in place of those that are there, and the first n of them
-abbrev pub front_of : (source destination : ℕ) → List ℕ → QuotedIpv4 → List ℕ
-front_of source destination bytes quoted =
+-- these bytes in place of those that are there
+abbrev pub front_to_6 : (source destination : ℕ) → List ℕ → QuotedIpv4 → List ℕ
+front_to_6 source destination bytes quoted =
     let f = quoted_fragment4 quoted in
     bytes_to_6 (ends_to_6 (quote_head6 source destination false f) f.common) quoted.sent (record f { bytes = bytes })
-
-abbrev pub front_to_6 : (source destination n : ℕ) → QuotedIpv4 → List ℕ
-front_to_6 source destination n quoted = front_of source destination (take n quoted.packet.payload) quoted
 
 -- TO IPv4
 

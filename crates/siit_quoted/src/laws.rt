@@ -1,5 +1,6 @@
 //! Laws of quotes and of the bodies that hold them, each the contract of a function with no body.
 ghost use Rattle.siit_quoted.specs.Laws.{Body6HasRoom, ExtensionComesBack, FragmentQuoteComesBack, UpperComesBack, WholeQuoteComesBack};
+ghost use Rattle.siit_quoted.specs.Returns.{BodiesComeBack, ExtensionsComeBack};
 
 /// An extension that was carried is found again behind the padded quote (RFC 4884).
 pub fn extension_comes_back()
@@ -19,6 +20,16 @@ pub fn whole_quote_comes_back()
 /// A quoted fragment that is accepted on both ways comes back from IPv6.
 pub fn fragment_quote_comes_back()
     ensures { FragmentQuoteComesBack }
+{}
+
+/// An extension that goes to IPv6 comes back to IPv4 (RFC 4884).
+pub fn extensions_come_back()
+    ensures { ExtensionsComeBack }
+{}
+
+/// The body of an error whose quote is accepted on both ways comes back from IPv6.
+pub fn bodies_come_back()
+    ensures { BodiesComeBack }
 {}
 
 /// An ICMPv6 error with its new body has at most 1280 bytes (RFC 4443 section 2.4).

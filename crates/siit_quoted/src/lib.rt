@@ -20,8 +20,8 @@ mod turned;
 pub use addresses::{Quote6, accepted_quote6, quote_addresses4, quote_addresses6};
 pub use examples::{extension_examples, quote_examples, refusal_examples};
 pub use laws::{
-    body6_has_room, extension_comes_back, fragment_quote_comes_back, upper_comes_back,
-    whole_quote_comes_back,
+    bodies_come_back, body6_has_room, extension_comes_back, extensions_come_back,
+    fragment_quote_comes_back, upper_comes_back, whole_quote_comes_back,
 };
 pub use multipart::{extension, quote_part};
 pub use part::accepted_walk;

@@ -51,6 +51,15 @@ pub(crate) fn upper_sums(upper: &[u8], kept: usize, front: &[u8]) -> Sums
     }
 }
 
+/// Copies bytes of a quote, from this place on.
+pub(crate) fn copy_front(front: &mut [u8], quote: &[u8], from: usize)
+    requires { from + length front.old ≤ length quote.now }
+    ensures { front.new ≡ take (length front.old) (drop from quote.now) }
+{
+    let end = from + front.len();
+    front.copy_from_slice(&quote[from..end]);
+}
+
 /// The residue of two residues.
 pub(crate) fn sum_both(one: u16, other: u16) -> u16
     ensures value { result ≡ (one + other) % 65535 }

@@ -1,13 +1,11 @@
 //! What goes and comes in the body of an ICMPv4 error on its way to IPv6, for the checksum of the message (RFC 1624).
-ghost use Rattle.siit_model.specs.Checksum.{residue};
-ghost use Rattle.siit_model.specs.Ipv4.{header_length_in, ipv4_fields, total_length_in};
 ghost use Rattle.siit_quoted.specs.Quoted.{HasQuote4, quoted4_fields};
 ghost use Rattle.siit_quoted.specs.Refusals.{quote_refusal4};
-ghost use Rattle.siit_quoted.specs.Rewriting.{IsCarriedTo6, cut_to_6, front_of, front_to_6, new_body_to_6, part_before};
+ghost use Rattle.siit_quoted.specs.Rewriting.{IsCarriedTo6, cut_to_6, front_to_6, new_body_to_6, part_before};
 ghost use Rattle.siit_quoted.specs.Sums.{IsDifference, IsPartDifference};
-ghost use Rattle.std.specs.Prelude.{◌≡◌, ◌<◌, ◌≤◌, ◌+◌, ◌%◌, length, take, None, IfSome};
+ghost use Rattle.std.specs.Prelude.{◌≡◌, ◌≤◌, ◌%◌, None, IfSome};
 
-use crate::sums::{CHANGED, Sums, cut_sums, sum_both};
+use crate::sums::{CHANGED, Sums, copy_front, sum_both, upper_sums};
 use crate::to_ipv6::{MOST, planned};
 use siit_addr::{Addresses4, Addresses6};
 use siit_checksum::sum_of;
@@ -40,42 +38,21 @@ fn part_sums(quote: &[u8], limit: usize, new: Addresses6, tos_zero: bool) -> Sum
     ensures { IsPartDifference quote.now (cut_to_6 new.src.0 new.dst.0 tos_zero limit quote.now) result.gone result.come }
 {
     let plan = planned(quote, limit, new, tos_zero);
-    let head = sum_of(&plan.written[..plan.new_len]);
     let mut room = [0u8; CHANGED];
-    if plan.kept < CHANGED {
-        let front = front_sum(&mut room[..plan.kept], plan.kept, quote, new);
-        return Sums {
-            gone: sum_of(quote),
-            come: sum_both(head, front),
-        };
-    }
-    let front = front_sum(&mut room, CHANGED, quote, new);
-    let end = plan.header_len + CHANGED;
-    let tail = cut_sums(&quote[end..], plan.kept - CHANGED);
-    Sums {
-        gone: sum_both(sum_of(&quote[..end]), tail.gone),
-        come: sum_both(sum_both(head, front), tail.come),
-    }
-}
-
-/// The residue of the first n bytes of a quote's upper part, translated. They are copied to `front`, which has n bytes.
-fn front_sum(front: &mut [u8], n: usize, quote: &[u8], new: Addresses6) -> u16
-    requires len { length front.old ≡ n }
-    requires quote { HasQuote4 quote.now }
-    requires there { header_length_in quote.now + n ≤ length quote.now }
-    requires told { header_length_in quote.now + n ≤ total_length_in quote.now }
-    ensures value { result ≡ residue (front_to_6 new.src.0 new.dst.0 n (quoted4_fields quote.now)) }
-    ensures below { result < 65535 }
-{
-    copy_front(front, n, quote);
+    let front = &mut room[..plan.kept.min(CHANGED)];
+    copy_front(front, quote, plan.header_len);
     translate_front(front, quote, new);
-    sum_of(front)
+    let upper = upper_sums(&quote[plan.header_len..], plan.kept, front);
+    Sums {
+        gone: sum_both(sum_of(&quote[..plan.header_len]), upper.gone),
+        come: sum_both(sum_of(&plan.written[..plan.new_len]), upper.come),
+    }
 }
 
 /// Translates the first bytes of a quote's upper part, and nothing of a later fragment.
 fn translate_front(front: &mut [u8], quote: &[u8], new: Addresses6)
     requires { HasQuote4 quote.now }
-    ensures { front.new ≡ front_of new.src.0 new.dst.0 front.old (quoted4_fields quote.now) }
+    ensures { front.new ≡ front_to_6 new.src.0 new.dst.0 front.old (quoted4_fields quote.now) }
 {
     let header = Ipv4Header::new(quote);
     if header.offset() != 0 {
@@ -87,17 +64,4 @@ fn translate_front(front: &mut [u8], quote: &[u8], new: Addresses6)
     };
     let sent = header.total() - header.header_len() as u16;
     upper46(header.protocol(), front, old, new, sent);
-}
-
-/// Copies n bytes from behind the header of a quote.
-fn copy_front(front: &mut [u8], n: usize, quote: &[u8])
-    requires len { length front.old ≡ n }
-    requires quote { HasQuote4 quote.now }
-    requires there { header_length_in quote.now + n ≤ length quote.now }
-    requires told { header_length_in quote.now + n ≤ total_length_in quote.now }
-    ensures { front.new ≡ take n (ipv4_fields quote.now).payload }
-{
-    let from = Ipv4Header::new(quote).header_len();
-    let end = from + n;
-    front.copy_from_slice(&quote[from..end]);
 }

@@ -1,12 +1,11 @@
 //! What goes and comes in the body of an ICMPv6 error on its way to IPv4, for the checksum of the message (RFC 1624).
-ghost use Rattle.siit_model.specs.Ipv6.{payload_length_in};
 ghost use Rattle.siit_quoted.specs.Quoted.{HasQuote6, quoted6_fields};
 ghost use Rattle.siit_quoted.specs.Rewriting.{IsCarried, cut_to_4, front_to_4, part_before, walked_body_to_4};
 ghost use Rattle.siit_quoted.specs.Sums.{IsDifference, IsPartDifference};
 ghost use Rattle.siit_upper.specs.Walks.{walked};
-ghost use Rattle.std.specs.Prelude.{◌≡◌, ◌<◌, ◌≤◌, ◌+◌, ◌%◌, length, take, drop, IfSome};
+ghost use Rattle.std.specs.Prelude.{◌≡◌, ◌<◌, ◌≤◌, ◌%◌, IfSome};
 
-use crate::sums::{CHANGED, Sums, sum_both, upper_sums};
+use crate::sums::{CHANGED, Sums, copy_front, sum_both, upper_sums};
 use crate::to_ipv4::{ALL, MOST, is_later, planned};
 use siit_addr::{Addresses4, Addresses6};
 use siit_checksum::sum_of;
@@ -69,13 +68,4 @@ fn translate_front(front: &mut [u8], quote: &[u8], walk: Walk, new: Addresses4)
         dst: header.dst(),
     };
     upper64(walk.upper, front, old, new, header.length() - walk.at);
-}
-
-/// Copies bytes of a quote, from this place on.
-pub(crate) fn copy_front(front: &mut [u8], quote: &[u8], from: usize)
-    requires { from + length front.old ≤ length quote.now }
-    ensures { front.new ≡ take (length front.old) (drop from quote.now) }
-{
-    let end = from + front.len();
-    front.copy_from_slice(&quote[from..end]);
 }

@@ -6,10 +6,9 @@ ghost use Rattle.siit_quoted.specs.Quotes.{quote_turned};
 ghost use Rattle.siit_quoted.specs.Rewriting.{IsCarriedTurned, front_turned, part_before, walked_body_turned};
 ghost use Rattle.siit_quoted.specs.Sums.{IsDifference, IsPartDifference};
 ghost use Rattle.siit_upper.specs.Walks.{walked};
-ghost use Rattle.std.specs.Prelude.{◌≡◌, ◌<◌, ◌≤◌, ◌+◌, ◌++◌, length, IfSome};
+ghost use Rattle.std.specs.Prelude.{◌≡◌, ◌++◌, IfSome};
 
-use crate::sums::{CHANGED, Sums, sum_both, upper_sums};
-use crate::sums64::copy_front;
+use crate::sums::{CHANGED, Sums, copy_front, sum_both, upper_sums};
 use crate::to_ipv4::is_later;
 use crate::turned::{are_bytes, quote_len, write_addresses};
 use siit_addr::Addresses6;

@@ -1,29 +1,36 @@
-use Rattle.std.proofs.Common.{◌+◌, ◌-◌, ◌%◌, take, drop, ◌∙◌, ap, sym, arith}
-use Rattle.std.proofs.lemmas.List.{length-take-le, take_rest}
-use Rattle.siit_model.specs.Checksum.{residue}
-use Rattle.siit_quoted.proofs.QuoteSums46.{sums-long, sums-short}
+use Rattle.std.proofs.Common.{◌≡◌, ℕ, ◌+◌, ◌-◌, ◌%◌, List, ◌++◌, length, min, take, drop, ◌∙◌, ap, sym, subst, arith, length-drop}
+use Rattle.std.proofs.lemmas.List.{length-take, length-take-le, take_rest}
+use Rattle.siit_quoted.specs.Sums.{IsPartDifference}
+use Rattle.siit_quoted.proofs.QuoteSums46.{part-sums}
 use Rattle.siit_quoted.proofs.sums46.part_sums.Goals as goal
 
-pub returns-then-plan-lt-CHANGED : goal.returns-then-plan-lt-CHANGED
-returns-then-plan-lt-CHANGED c =
-    let p = c.planned-plan.result in let e = c.planned-plan.ensures in
-    sums-short c.args.new.src.0 c.args.new.dst.0 c.args.limit p.header_len p.kept p.new_len c.args.tos_zero c.args.quote.now c.requires.quote
-    (record { header_len = e.header_len; new_len = e.new_len; most = e.most; kept = e.kept }) c.requires.limit
-    c.sum_of.result c.sum_both.result c.sum_of-head.result c.front_sum-front.result (omega (arith, c.if-plan-lt-CHANGED.true))
-    (c.sum_of-head.ensures.value ∙ ap residue e.written) c.front_sum-front.ensures.value c.sum_of.ensures.value c.sum_both.ensures.value
+pub upper_sums-upper-requires-clause-front : goal.upper_sums-upper-requires-clause-front
+upper_sums-upper-requires-clause-front c =
+    let quote : List ℕ = c.args.quote.now in
+    let p = c.planned-plan.result in
+    let there : List ℕ = drop p.header_len quote in
+    let copied : c.copy_front.new.front ≡ take (min c.min.result 20) there = simp length-take at c.copy_front.ensures in
+    let size = ap length copied ∙ length-take (min c.min.result 20) there in
+    omega (arith, c.translate_front.auto.front, size, length-drop p.header_len quote, c.min.ensures, c.planned-plan.ensures.kept, c.planned-plan.ensures.header_len)
 
-pub slice_bounds-sum_of-end-2 : goal.slice_bounds-sum_of-end-2
-slice_bounds-sum_of-end-2 c =
-    let e = c.planned-plan.ensures in
-    sym (length-take-le (c.planned-plan.result.header_len + 20) c.args.quote.now (omega (arith, e.header_len, e.kept, c.if-plan-lt-CHANGED.false, c.requires.quote.inside)))
+pub slice_bounds-sum_of-end : goal.slice_bounds-sum_of-end
+slice_bounds-sum_of-end c = sym (length-take-le c.planned-plan.result.header_len c.args.quote.now (omega (arith, c.planned-plan.ensures.header_len, c.requires.quote.inside)))
+
+twenty : (n kept : ℕ) → n ≡ min kept 20 → min n 20 ≡ min kept 20
+twenty n kept is = omega arith
 
 pub returns : goal.returns
 returns c =
+    let quote : List ℕ = c.args.quote.now in
     let p = c.planned-plan.result in let e = c.planned-plan.ensures in
-    sums-long c.args.new.src.0 c.args.new.dst.0 c.args.limit p.header_len p.kept p.new_len c.args.tos_zero c.args.quote.now c.requires.quote
-    (record { header_len = e.header_len; new_len = e.new_len; most = e.most; kept = e.kept }) c.requires.limit
-    c.sum_both-2.result c.sum_both-4.result c.sum_of-head.result c.front_sum-front-2.result c.sum_of-2.result c.cut_sums-tail.result.gone c.cut_sums-tail.result.come c.sum_both-3.result
-    (omega (arith, c.if-plan-lt-CHANGED.false)) (c.sum_of-head.ensures.value ∙ ap residue e.written) c.front_sum-front-2.ensures.value c.sum_of-2.ensures.value
-    (c.cut_sums-tail.ensures.gone ∙ ap (λ l. residue (drop (p.kept - 20 - (p.kept - 20) % 2) l)) (take_rest c.args.quote.now (p.header_len + 20)))
-    (c.cut_sums-tail.ensures.come ∙ ap (λ l. residue (drop (p.kept - 20 - (p.kept - 20) % 2) (take (p.kept - 20) l))) (take_rest c.args.quote.now (p.header_len + 20)))
-    c.sum_both-2.ensures.value c.sum_both-3.ensures.value c.sum_both-4.ensures.value
+    let there : List ℕ = drop p.header_len quote in
+    let front : List ℕ = c.translate_front.new.front in
+    let upper = c.upper_sums-upper.result in
+    let copied : c.copy_front.new.front ≡ take (min p.kept 20) there =
+    (simp length-take at c.copy_front.ensures) ∙ ap (λ n. take n there) (twenty c.min.result p.kept c.min.ensures) in
+    part-sums c.args.new.src.0 c.args.new.dst.0 c.args.limit p.header_len p.kept p.new_len c.args.tos_zero quote c.copy_front.new.front front (take p.new_len p.written)
+    c.sum_both.result c.sum_both-2.result upper.gone upper.come
+    c.requires.quote (record { header_len = e.header_len; new_len = e.new_len; most = e.most; kept = e.kept }) c.requires.limit e.written copied c.translate_front.ensures
+    (subst (λ l. IsPartDifference l (front ++ take (p.kept - 20) (drop 20 l)) upper.gone upper.come) (take_rest quote p.header_len) c.upper_sums-upper.ensures)
+    (c.sum_both.ensures.value ∙ ap (λ n. (n + upper.gone) % 65535) c.sum_of.ensures.value)
+    (c.sum_both-2.ensures.value ∙ ap (λ n. (n + upper.come) % 65535) c.sum_of-2.ensures.value)

@@ -1,7 +1,6 @@
 use Rattle.std.proofs.Common.{◌≡◌, ℕ, ◌%◌, List, Option, IfSome, subst, arith}
 use Rattle.siit_upper.specs.Walks.{walked}
-use Rattle.siit_quoted.specs.Quoted.{HasQuote6}
-use Rattle.siit_quoted.specs.Rewriting.{IsCarried, part_before}
+use Rattle.siit_quoted.specs.Rewriting.{IsCarried}
 use Rattle.siit_quoted.proofs.Bodies.{has-alone}
 use Rattle.siit_quoted.proofs.QuoteSums64.{sums-alone, sums-extended}
 use Rattle.siit_quoted.proofs.sums64.quote_sums64.Goals as goal

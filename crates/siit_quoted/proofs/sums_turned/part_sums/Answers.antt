@@ -1,7 +1,5 @@
-use Rattle.std.proofs.Common.{◌≡◌, ℕ, ◌+◌, ◌-◌, ◌%◌, ◌≤◌, List, ◌++◌, length, min, take, drop, ◌∙◌, ap, sym, subst, arith, length-drop}
-use Rattle.std.proofs.lemmas.List.{length-take, length-take-le, take_rest}
-use Rattle.siit_model.specs.Checksum.{residue}
-use Rattle.siit_model.specs.Ipv6.{payload_length_in}
+use Rattle.std.proofs.Common.{◌≡◌, ℕ, ◌+◌, ◌-◌, List, ◌++◌, length, min, take, drop, ◌∙◌, ap, subst, arith, length-drop}
+use Rattle.std.proofs.lemmas.List.{length-take, take_rest}
 use Rattle.siit_upper.specs.Walks.{walked}
 use Rattle.siit_quoted.specs.Sums.{IsPartDifference}
 use Rattle.siit_quoted.proofs.QuoteSumsTurned.{part-sums}

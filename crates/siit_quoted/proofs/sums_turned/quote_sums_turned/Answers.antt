@@ -1,7 +1,6 @@
 use Rattle.std.proofs.Common.{ℕ, List, Option, IfSome, subst, arith}
 use Rattle.siit_upper.specs.Walks.{walked}
 use Rattle.siit_quoted.specs.Rewriting.{IsCarriedTurned}
-use Rattle.siit_quoted.proofs.Bodies.{has-alone}
 use Rattle.siit_quoted.proofs.QuoteSumsTurned.{sums-alone, sums-extended}
 use Rattle.siit_quoted.proofs.sums_turned.quote_sums_turned.Goals as goal
 
