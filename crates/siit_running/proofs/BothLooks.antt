@@ -15,7 +15,7 @@ use Rattle.siit_run.specs.Runs.{begun, head_fault, is_earlier, stopped}
 use Rattle.siit_running.specs.Ends.{HaveLooked, IsChosen, IsLookFault, ReadOn, StandsAt, rest_of, source_at}
 use Rattle.siit_running.specs.Inputs.{AreTold, IsTold, IsTooLong, IsWithin, ReadFailedAt}
 use Rattle.siit_running.specs.Looking.{IsUnreadable}
-use Rattle.siit_running.specs.Sources.{CaptureFile, HasLooked, HasNothing, IsCounted, IsFedNear, IsReadToIn, IsReadWhole, IsSource, IsToldIn, ReadsOn, file_named, given_before, later_in, rest_by, rest_in}
+use Rattle.siit_running.specs.Sources.{CaptureFile, HasLooked, IsCounted, IsFedNear, IsReadToIn, IsReadWhole, IsSource, IsToldIn, ReadsOn, file_named, given_before, later_in, rest_by, rest_in}
 use Rattle.siit_running.specs.Turns.{HasNoFault, earlier_of, head_judged, head_origin, is_before, next_end, next_told}
 use Rattle.siit_running.specs.declared.captures.Captures.{Captures}
 use Rattle.siit_running.specs.declared.fault.RunFault.{RunFault}
@@ -23,18 +23,7 @@ use Rattle.siit_running.specs.declared.fault.RunFault.TheVariants.{ReadFault, Wr
 use Rattle.siit_running.specs.declared.next.Next.{Next}
 use Rattle.siit_running.specs.declared.next.Next.TheVariants as next
 use Rattle.siit_running.specs.declared.source.Source.{Source}
-use Rattle.siit_running.proofs.Sides.{apart_none, file_same, in_after, in_kept, in_none, told_in}
-
-nothing_near : (o : Option Next) (reading : Reading) (place : ℕ) → HasNothing o → IsFedNear (rest_by o reading ended) place
-nothing_near None reading place h = λ record_found ends later is. cc
-nothing_near (Some (next.Record head)) reading place h = absurd h
-nothing_near (Some next.End) reading place h = λ record_found ends later is. cc
-nothing_near (Some (next.Fault fault_place fault)) reading place h = absurd h
-
--- what a source tells of how far it was read
-pub source_near : (file : Option CaptureFile) (source : Source) → IsSource file source → IsToldIn file → IsFedNear (rest_in file source) (fed source.reader)
-source_near None source s told = nothing_near source.next source.reader (fed source.reader) s.from_file
-source_near (Some file) source s told = (s.from_file told).near
+use Rattle.siit_running.proofs.Sides.{apart_none, file_same, in_after, in_kept, told_in}
 
 pub have_looked : (files : FilesMeaning) (names : End → Option (List ℕ)) (old new : Captures) → HasLooked (file_named files (names ends.Left)) old.left new.left → HasLooked (file_named files (names ends.Right)) old.right new.right → HaveLooked files names old new
 have_looked files names old new left right ends.Left = left
@@ -69,22 +58,6 @@ module _ {a b : FilesMeaning} (name : Option (List ℕ)) {reads : List (List ℕ
 
 module _ (a : FilesMeaning) (names : End → Option (List ℕ)) (old new : Captures) where
   module _ (b : FilesMeaning) (left : Touches a b (some_name (names ends.Left)) []) (read_left : ReadsOn a b (names ends.Left) old.left new.left) where
-    -- the left one was read on alone
-    near_left : AreTold a names → IsSource (file_named a (names ends.Right)) old.right → new.right ≡ old.right → (end : End) → IsFedNear (rest_of a names old end) (fed (source_at end new).reader)
-    near_left told s stays ends.Left = read_left.near (told_in a (names ends.Left) (told ends.Left))
-    near_left told s stays ends.Right = subst (λ (r : Source). IsFedNear (rest_of a names old ends.Right) (fed r.reader)) (sym stays) (source_near (file_named a (names ends.Right)) old.right s (told_in a (names ends.Right) (told ends.Right)))
-
-    far_left : (end : End) → names (other_end end) ≢ names end → IsReadToIn a b (names end) (fed (source_at end new).reader)
-    far_left ends.Left differ = read_left.read
-    far_left ends.Right differ = in_after a b b (names ends.Right) (names ends.Left) (fed new.right.reader) differ left (in_none b (names ends.Right) (fed new.right.reader))
-
-    more_left : new.right ≡ old.right → (end : End) → fed (source_at end old).reader ≤ fed (source_at end new).reader
-    more_left stays ends.Left = read_left.more
-    more_left stays ends.Right = omega (arith, ap (λ (r : Source). fed r.reader) stays)
-
-    pub read_on_left : IsSource (file_named a (names ends.Right)) old.right → new.right ≡ old.right → ReadOn a b names old new
-    read_on_left s stays = record { near = λ told. near_left told s stays; read = far_left; more = more_left stays }
-
     module _ (c : FilesMeaning) (right : Touches b c (some_name (names ends.Right)) []) (read_right : ReadsOn b c (names ends.Right) old.right new.right) where
       near_both : AreTold a names → (end : End) → IsFedNear (rest_of a names old end) (fed (source_at end new).reader)
       near_both told ends.Left = read_left.near (told_in a (names ends.Left) (told ends.Left))
@@ -102,16 +75,8 @@ module _ (a : FilesMeaning) (names : End → Option (List ℕ)) (old new : Captu
       pub read_on_both : ReadOn a c names old new
       read_on_both = record { near = near_both; read = far_both; more = more_both }
 
--- Why a capture wasn't found out, of the left one and of the right one
+-- Why the right capture wasn't found out
 module _ (a b : FilesMeaning) (names : End → Option (List ℕ)) (old new : Captures) (P : End → ℕ → CaptureFault → Type 0) where
-  pub left_fault : Touches a b (some_name (names ends.Left)) [] → IsSource (file_named a (names ends.Right)) old.right → new.right ≡ old.right → (fault : RunFault) → IsUnreadable ends.Left a b (names ends.Left) old.left new.left fault → IsLookFault a b names old new P fault
-  left_fault only s stays (ReadFault end) h =
-      (subst (λ (e : End). ReadFailedAt a b (names e)) (sym h.0) h.1, read_on_left a names old new b only h.2 s stays)
-  left_fault only s stays WriteFault h = absurd h
-  left_fault only s stays (BadCapture end place fault) h = absurd h
-  left_fault only s stays (TooLong end) h = subst (λ (e : End). IsTooLong a (names e)) (sym h.0) h.1
-  left_fault only s stays NoMemory h = absurd h
-
   pub right_fault : (c : FilesMeaning) → Touches a b (some_name (names ends.Left)) [] → ReadsOn a b (names ends.Left) old.left new.left → Touches b c (some_name (names ends.Right)) [] → (fault : RunFault) → IsUnreadable ends.Right b c (names ends.Right) old.right new.right fault → IsLookFault a c names old new P fault
   right_fault c only read_left right (ReadFault end) h = (
     failed_after (names end) only c (names end) (subst (λ (e : End). ReadFailedAt b c (names e)) (sym h.0) h.1),

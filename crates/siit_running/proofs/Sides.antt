@@ -30,10 +30,6 @@ told_same only (Some name) told = subst (λ (x : Bool). IsTrue x) (sym (only.tol
 
 -- How far a file was read
 
-pub read_none : (old : Option ℕ) (place : ℕ) → IsReadTo old old place
-read_none None place = tt
-read_none (Some n) place = omega arith
-
 pub read_less : (old new : Option ℕ) (a b : ℕ) → a ≤ b → IsReadTo old new a → IsReadTo old new b
 read_less None None a b le h = tt
 read_less None (Some n) a b le h = h
@@ -47,10 +43,6 @@ read_then None (Some m) new a b h k le = absurd h
 read_then (Some o) None new a b h k le = absurd h
 read_then (Some o) (Some m) None a b h k le = absurd k
 read_then (Some o) (Some m) (Some n) a b h k le = omega arith
-
-pub in_none : (a : FilesMeaning) (name : Option (List ℕ)) (place : ℕ) → IsReadToIn a a name place
-in_none a None place = tt
-in_none a (Some name) place = read_none (a.given name) place
 
 pub in_then : (a b c : FilesMeaning) (name : Option (List ℕ)) (m n : ℕ) → IsReadToIn a b name m → IsReadToIn b c name n → m ≤ n → IsReadToIn a c name n
 in_then a b c None m n h k le = tt
@@ -73,9 +65,6 @@ in_after a b c (Some name) other place differ only h = subst (λ (g : Option ℕ
 pub in_written : (a b c : FilesMeaning) (writes : List (List ℕ)) (name : Option (List ℕ)) (place : ℕ) → IsReadToIn a b name place → Touches b c [] writes → IsReadToIn a c name place
 in_written a b c writes None place h only = tt
 in_written a b c writes (Some name) place h only = subst (λ (g : Option ℕ). IsReadTo (a.given name) g place) (sym (only.given name tt)) h
-
-pub in_unread : (a b : FilesMeaning) (writes : List (List ℕ)) (name : Option (List ℕ)) (place : ℕ) → Touches a b [] writes → IsReadToIn a b name place
-in_unread a b writes name place only = in_written a a b writes name place (in_none a name place) only
 
 ahead_at : (old new : Option ℕ) (rest : Records) (place : ℕ) → IsReadTo old new place → IsFedNear rest place → IsReadAhead old new rest
 ahead_at old new ended place read near = tt
