@@ -11,6 +11,7 @@ pub mod Rules4
 pub mod Rules6
 pub mod Answers
 pub mod Outcome
+pub mod Laws
 pub mod Examples
 pub mod HairpinExamples
 pub mod Answered

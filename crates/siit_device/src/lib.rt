@@ -3,6 +3,8 @@
 //! contracts of functions with no body.
 #![tactic(auto)]
 
+mod laws;
+
 ghost use Rattle.siit_device.specs.Examples.{BareUdpExamples, ErrorExamples, RuleExamples, SizeExamples, TcpExamples};
 ghost use Rattle.siit_device.specs.HairpinExamples.{HairpinExamples};
 
