@@ -1,5 +1,5 @@
 -- What holds of each packet of a list that is written.
-use Rattle.std.proofs.Common.{◌≡◌, ℕ, suc, ◌+◌, ◌<◌, List, [], ◌∷◌, length, map, All, refl, arith}
+use Rattle.std.proofs.Common.{suc, List, [], ◌∷◌, map, All, arith}
 use Rattle.std.specs.List.{AllByRecursion}
 
 by-recursion : {X : Type 0} (P : X → Type 0) (xs : List X) → All P xs → AllByRecursion P xs

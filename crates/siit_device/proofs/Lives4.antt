@@ -1,12 +1,12 @@
 -- What comes of a packet from the IPv4 side may live less long than it.
-use Rattle.std.proofs.Common.{◌≡◌, ◌⊎◌, inl, inr, ℕ, ◌+◌, ◌-◌, ◌*◌, ◌/◌, ◌%◌, ◌^◌, ◌<◌, ◌≤◌, List, [], ◌∷◌, length, take, drop, map, All, Bool, true, false, not, ◌&&◌, ◌||◌, ◌==◌, nat_lt, if◌then◌else◌, Option, Some, None, Result, Ok, Err, ◌∙◌, ap, sym, subst, refl, arith, eq-eqb, ne_eqb}
+use Rattle.std.proofs.Common.{◌≡◌, ◌⊎◌, inl, inr, ℕ, ◌+◌, ◌-◌, ◌*◌, ◌/◌, ◌<◌, ◌≤◌, List, [], ◌∷◌, length, drop, map, Bool, true, false, not, ◌&&◌, ◌||◌, ◌==◌, nat_lt, if◌then◌else◌, Option, Some, None, Result, Ok, ◌∙◌, ap, sym, subst, refl, arith, eq-eqb, ne_eqb}
 use Rattle.std.specs.List.{AllByRecursion}
 use Rattle.std.specs.Result.{result_err}
 use Rattle.std.proofs.lemmas.Bool.{ltb-false, eqb-true}
-use Rattle.siit_model.specs.Bytes.{AreBytes, field8, field16, part}
-use Rattle.siit_model.specs.Fragments.{Common, Fragment, fragment4, fragment_packet6, is_whole, plain_packet6}
+use Rattle.siit_model.specs.Bytes.{AreBytes, field8}
+use Rattle.siit_model.specs.Fragments.{Fragment, fragment4, fragment_packet6, is_whole, plain_packet6}
 use Rattle.siit_model.specs.Ipv4.{Ipv4Packet, ipv4_fields, is_bad_header4, is_short4, is_whole4, version_in}
-use Rattle.siit_model.specs.Ipv6.{Ipv6Packet, ipv6_bytes, ipv6_fields}
+use Rattle.siit_model.specs.Ipv6.{Ipv6Packet, ipv6_bytes}
 use Rattle.siit_rules.specs.Rows.{row_of}
 use Rattle.siit_rules.specs.declared.rule.Answer.{Answer}
 use Rattle.siit_rules.specs.declared.rule.Answer.TheVariants.{Silent, Icmp4, Icmp6}
@@ -17,7 +17,7 @@ use Rattle.siit_fragments.proofs.Pieces.{All-pieces, piece-length}
 use Rattle.siit_icmp.specs.Errors.{is_error_kind4, is_error_kind6}
 use Rattle.siit_icmp.specs.Icmp.{icmp_to_6}
 use Rattle.siit_icmp.specs.declared.kinds.NewKind.{NewKind}
-use Rattle.siit_v4to6.specs.To6.{bytes_to_6, ends_to_6, has_fragment_header, packet6}
+use Rattle.siit_v4to6.specs.To6.{ends_to_6}
 use Rattle.siit_v4to6.proofs.Good.{to_6-length}
 use Rattle.siit_v4to6.proofs.Packets.{fragment-packet, plain-packet}
 use Rattle.siit_quoted.specs.Quotes.{written_class}
@@ -25,18 +25,18 @@ use Rattle.siit_chain.specs.Outcome.{Falls, dropped, pieces, through}
 use Rattle.siit_roles.specs.Limits.{IsWithinLimits}
 use Rattle.siit_roles.specs.declared.settings.Settings.{Settings}
 use Rattle.siit_errors.specs.Answers.{is_perhaps_error, may_answer4, may_answer6}
-use Rattle.siit_errors.specs.Errors.{answer4, error4, error_packet4, message_packet4}
+use Rattle.siit_errors.specs.Errors.{answer4, error4, error_packet4}
 use Rattle.siit_device.specs.Answers.{told_to_4}
-use Rattle.siit_device.specs.Arrival4.{is_error4, is_expired4, is_icmp_fragment4, is_icmp_refused4, is_misshapen4, is_upper_short4}
+use Rattle.siit_device.specs.Arrival4.{is_error4, is_icmp_fragment4, is_icmp_refused4, is_upper_short4}
 use Rattle.siit_device.specs.Forward.{error_by6, error_to_6, head6_for, is_cut6, is_error_fragment4, lacks_checksum, pieces6, translated6, upper_forward, whole6}
-use Rattle.siit_device.specs.Laws.{hops_in, life, measure}
+use Rattle.siit_device.specs.Laws.{life, measure}
 use Rattle.siit_device.specs.Outcome.{outcome4, outcome_by4}
 use Rattle.siit_device.specs.Rows.{first_of, is_by, or_rule}
-use Rattle.siit_device.specs.Rules4.{address_rows4, bytes_rows4, first_rule4, header_rows4, packet_rule4, quote_rows4, size_rows4, upper_rows4}
+use Rattle.siit_device.specs.Rules4.{bytes_rows4, first_rule4, header_rows4, packet_rule4, upper_rows4}
 use Rattle.siit_device.specs.Shapes.{is_misshapen, least_upper}
 use Rattle.siit_device.proofs.ErrorKinds.{kinds6}
 use Rattle.siit_device.proofs.Lists.{all-made}
-use Rattle.siit_device.proofs.Read.{answer-falls, falls-by, later-silent6, lived4, lived6, made4, made6, message-silent4, message-silent6}
+use Rattle.siit_device.proofs.Read.{answer-falls, falls-by, later-silent6, lived4, lived6, made6, message-silent4, message-silent6}
 use Rattle.siit_device.proofs.Rows.{neither, none-at}
 
 -- TESTS

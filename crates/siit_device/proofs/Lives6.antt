@@ -1,15 +1,14 @@
 -- What comes of a packet from the IPv6 side may live less long than it.
-use Rattle.std.proofs.Common.{◌≡◌, ◌⊎◌, inl, inr, ℕ, zero, suc, ◌+◌, ◌-◌, ◌*◌, ◌/◌, ◌%◌, ◌^◌, ◌<◌, ◌≤◌, List, [], ◌∷◌, ◌++◌, length, take, drop, map, All, Bool, true, false, not, ◌&&◌, ◌||◌, ◌==◌, nat_lt, nat_le, if◌then◌else◌, Option, Some, None, Result, Ok, Err, is_err, ◌∙◌, ap, sym, subst, refl, arith, eq-eqb, ne_eqb, append_assoc, length-append, length-drop}
+use Rattle.std.proofs.Common.{◌≡◌, ◌⊎◌, inl, inr, ℕ, zero, suc, ◌+◌, ◌-◌, ◌*◌, ◌/◌, ◌<◌, ◌≤◌, List, [], ◌∷◌, ◌++◌, length, take, drop, map, Bool, true, false, not, ◌&&◌, ◌||◌, ◌==◌, nat_lt, nat_le, if◌then◌else◌, Option, Some, None, Result, Ok, Err, ◌∙◌, ap, sym, subst, refl, arith, eq-eqb, length-append, length-drop}
 use Rattle.std.specs.List.{AllByRecursion}
 use Rattle.std.specs.Result.{result_err}
 use Rattle.std.proofs.lemmas.Bool.{eqb-true, leb-true, ltb-false}
 use Rattle.std.proofs.lemmas.List.{drop_at, drop-take, length-take, length-take-le, take-append-drop, take-take}
 use Rattle.std.proofs.Math.Nat.{suc-mul}
-use Rattle.siit_model.specs.Bytes.{AreBytes, field8, field16, part}
-use Rattle.siit_model.specs.Checksum.{pseudo6}
+use Rattle.siit_model.specs.Bytes.{AreBytes, field8, part}
 use Rattle.siit_model.specs.Extensions.{FragmentFields, Trouble, Walked, walk_of}
-use Rattle.siit_model.specs.Fragments.{Common, Fragment, fields_in, fragment4, fragment_by, fragment_if, is_whole, packet4}
-use Rattle.siit_model.specs.Ipv4.{Ipv4Packet, ipv4_bytes, ipv4_fields}
+use Rattle.siit_model.specs.Fragments.{Common, Fragment, fields_in, fragment_by, is_whole, packet4}
+use Rattle.siit_model.specs.Ipv4.{Ipv4Packet, ipv4_bytes}
 use Rattle.siit_model.specs.Ipv6.{Ipv6Packet, ipv6_bytes, ipv6_fields, is_bad_header6, is_short6, payload_length_in, version6_in}
 use Rattle.siit_addr.specs.declared.addr.Addresses6.{Addresses6}
 use Rattle.siit_rules.specs.Rows.{row_of}
@@ -27,32 +26,30 @@ use Rattle.siit_icmp.specs.Icmp.{icmp_to_4}
 use Rattle.siit_icmp.specs.declared.kinds.NewKind.{NewKind}
 use Rattle.siit_icmp.specs.declared.kinds.Rest.{Rest}
 use Rattle.siit_icmp.specs.declared.kinds.Rest.TheVariants.{Same, Zero, Mtu, Pointer, PointerSix, Length}
-use Rattle.siit_upper.specs.Walks.{rule_of}
 use Rattle.siit_v6to4.specs.To4.{df_for, ends_to_4, identification, walk_in}
 use Rattle.siit_v6to4.proofs.Good.{to_4-length}
 use Rattle.siit_quoted.specs.Bodies.{NewBody, carried_to_4, has_extension, joined_to_4, length_octet6, padding, part_of}
-use Rattle.siit_quoted.specs.Errors.{error_moved, part_to_4, quote_by_walk}
+use Rattle.siit_quoted.specs.Errors.{part_to_4, quote_by_walk}
 use Rattle.siit_quoted.specs.Quoted.{QuotedIpv6, quoted6_fields}
 use Rattle.siit_quoted.specs.Quotes.{quote_to_4}
 use Rattle.siit_quoted.specs.Rewriting.{quote_head_to_4, quoted_upper_to_4}
-use Rattle.siit_quoted.proofs.Ends.{upper_of}
 use Rattle.siit_quoted.proofs.Extended.{joined-length}
 use Rattle.siit_quoted.proofs.Quotes64.{upper-length-kept}
-use Rattle.siit_chain.specs.Outcome.{Falls, dropped, pieces, through, turned}
+use Rattle.siit_chain.specs.Outcome.{Falls, dropped, pieces, through}
 use Rattle.siit_roles.specs.Limits.{IsWithinLimits}
 use Rattle.siit_roles.specs.declared.settings.Settings.{Settings}
-use Rattle.siit_errors.specs.Answers.{is_answerable, is_perhaps_error, may_answer4, may_answer6}
+use Rattle.siit_errors.specs.Answers.{is_perhaps_error, may_answer4, may_answer6}
 use Rattle.siit_errors.specs.Errors.{answer6, error6, error_packet6}
 use Rattle.siit_device.specs.Addresses.{to4}
 use Rattle.siit_device.specs.Answers.{told_to_6}
-use Rattle.siit_device.specs.Arrival6.{Arrived, arrived_fragment, is_error6, is_expired6, is_icmp_fragment6, is_icmp_refused6, is_misshapen6, is_upper_short6, quoted_part6, quote_turn_for, turn_for}
+use Rattle.siit_device.specs.Arrival6.{Arrived, arrived_fragment, is_error6, is_icmp_fragment6, is_icmp_refused6, is_upper_short6, quoted_part6, turn_for}
 use Rattle.siit_device.specs.Backward.{error_by4, error_to_4, head4_for, is_number_used, is_sent_cut4, new_body4, pieces4, rest_to_4, sent4, upper_backward, whole4}
 use Rattle.siit_device.specs.Laws.{life, measure}
-use Rattle.siit_device.specs.Outcome.{outcome6, outcome_by6, outcome_by_turn, outcome_by_walk, outcome_on4, segments_in}
+use Rattle.siit_device.specs.Outcome.{outcome6, outcome_by6, outcome_by_turn, outcome_by_walk, segments_in}
 use Rattle.siit_device.specs.Rows.{first_of, is_by, or_rule}
-use Rattle.siit_device.specs.Rules6.{address_rows6, arrived_rule6, bytes_rows6, first_rule6, header_rows6, packet_rule6, quote_rows6, size_rows6, upper_rows6, walk_rows6, walked_rule6}
+use Rattle.siit_device.specs.Rules6.{arrived_rule6, bytes_rows6, first_rule6, header_rows6, packet_rule6, upper_rows6, walk_rows6, walked_rule6}
 use Rattle.siit_device.specs.Shapes.{is_misshapen, least_upper}
-use Rattle.siit_device.specs.Turned.{body_by_turn, error_turned, packet_turned, rest_turned, upper_back}
+use Rattle.siit_device.specs.Turned.{error_turned, packet_turned, upper_back}
 use Rattle.siit_device.proofs.ErrorKinds.{kinds4}
 use Rattle.siit_device.proofs.Lists.{all-made}
 use Rattle.siit_device.proofs.Lives4.{and-second, and-true, ends-within, if-true, kind-there, later-part, later-still, nonzero, not-false, not-true, second-out, unanswered, within}

@@ -1,17 +1,17 @@
 -- What is read in written packets of their hops and of what decides whether they are answered.
-use Rattle.std.proofs.Common.{◌≡◌, ℕ, zero, suc, ◌+◌, ◌-◌, ◌*◌, ◌/◌, ◌%◌, ◌^◌, ◌<◌, ◌≤◌, List, [], ◌∷◌, ◌++◌, length, take, drop, max, Bool, true, false, not, ◌&&◌, ◌||◌, ◌==◌, nat_lt, if◌then◌else◌, Option, Some, None, Result, Ok, Err, ◌∙◌, ap, sym, subst, refl, arith, eq-eqb, ne_eqb}
+use Rattle.std.proofs.Common.{◌≡◌, ℕ, zero, suc, ◌+◌, ◌-◌, ◌*◌, ◌/◌, ◌%◌, ◌<◌, ◌≤◌, List, [], ◌∷◌, length, take, Bool, true, false, not, ◌&&◌, ◌==◌, nat_lt, if◌then◌else◌, Result, Ok, Err, ◌∙◌, ap, sym, refl, arith, eq-eqb, ne_eqb}
 use Rattle.std.proofs.lemmas.List.{take_all}
 use Rattle.std.specs.Option.{option_map_or}
 use Rattle.siit_model.specs.Bytes.{field8, field16, flag_bit}
-use Rattle.siit_model.specs.Extensions.{FragmentFields, Walked, Trouble, behind_fragment, fragment_header, is_extension, runs_short, walk_of}
-use Rattle.siit_model.specs.Fragments.{Fragment, fields_in, fragment4, fragment6, fragment_by, fragment_if, fragment_packet6, packet4}
+use Rattle.siit_model.specs.Extensions.{Walked, Trouble, behind_fragment, is_extension, runs_short, walk_of}
+use Rattle.siit_model.specs.Fragments.{Fragment, fragment_by, fragment_if, fragment_packet6, packet4}
 use Rattle.siit_model.specs.Ipv4.{Ipv4Packet, ipv4_bytes, ipv4_fields, version_in, total_length_in}
 use Rattle.siit_model.specs.Ipv6.{Ipv6Packet, ipv6_bytes, ipv6_fields, payload_length_in, version6_in}
 use Rattle.siit_checksum.proofs.Digits.{two-read}
 use Rattle.siit_icmp.specs.Errors.{is_error_kind4, is_error_kind6}
 use Rattle.siit_v4to6.proofs.Written.{version-written}
 use Rattle.siit_errors.specs.Answers.{is_answerable, is_perhaps_error, may_answer4, may_answer6}
-use Rattle.siit_device.specs.Laws.{hops_in, life, may_answer, measure}
+use Rattle.siit_device.specs.Laws.{life, measure}
 
 -- THE MEASURE
 

@@ -1,4 +1,4 @@
-use Rattle.std.proofs.Common.{◌<◌, if◌then◌else◌, Bool, true, false, ◌==◌, ℕ, List}
+use Rattle.std.proofs.Common.{◌<◌, if◌then◌else◌, Bool, true, false, ◌==◌, ℕ}
 use Rattle.siit_model.specs.Ipv4.{ipv4_fields, version_in}
 use Rattle.siit_model.specs.Ipv6.{ipv6_fields}
 use Rattle.siit_device.specs.Laws.{LivesAreBounded, hops_in, may_answer, measure}

@@ -1,4 +1,3 @@
-use Rattle.siit_rules.specs.declared.rule.Family.{Family}
 use Rattle.siit_rules.specs.declared.rule.Family.TheVariants.{Four, Six}
 use Rattle.siit_device.specs.Laws.{WhatComesLivesLess}
 use Rattle.siit_device.proofs.Lives4.{falls4}
