@@ -16,7 +16,7 @@ use Rattle.siit_quoted.proofs.Words.{field16-with_field16}
 use Rattle.siit_roles.specs.declared.settings.Settings.{Settings}
 use Rattle.siit_views.specs.Contents.{rewritten}
 use Rattle.siit_views.proofs.Places.{rewritten-same}
-use Rattle.siit_v6to4.specs.To4.{bytes_to_4, ends_between, ends_to_4, upper_to_4}
+use Rattle.siit_v6to4.specs.To4.{bytes_to_4, ends_6_to_4, ends_to_4, upper_to_4}
 use Rattle.siit_v6to4.proofs.Good.{upper-length}
 use Rattle.siit_v6to4.proofs.Heads.{upper-is, upper-length-is}
 use Rattle.siit_v6to4.specs.declared.fields.Head64.{Head64}
@@ -98,7 +98,7 @@ pub first-moved : (bytes new : List ℕ) (arrived : Arrived6) (to : Head64) (lat
     let f = arrived_fragment (arrival_of bytes arrived) in
     let between : Addresses4 = record { src = to.src; dst = to.dst } in
     later ≡ not (f.offset == 0) → later ≡ false → from ≡ arrived.walk.at
-    → new ≡ take (40 + from) bytes ++ upper_to_4 arrived.walk.upper (ends_between arrived.old between) (arrived.len - arrived.walk.at) (drop (40 + from) bytes)
+    → new ≡ take (40 + from) bytes ++ upper_to_4 arrived.walk.upper (ends_6_to_4 arrived.old between) (arrived.len - arrived.walk.at) (drop (40 + from) bytes)
     → HasUpper (arrival_of bytes arrived) (bytes_to_4 (ends_to_4 (head_by to (arrival_of bytes arrived)) f.common) (length f.bytes) f) new
 first-moved bytes new arrived to later from alone is is_first is_from is_new =
     let f : Fragment = arrived_fragment (arrival_of bytes arrived) in

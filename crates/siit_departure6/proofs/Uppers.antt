@@ -6,7 +6,7 @@ use Rattle.siit_model.specs.Ipv4.{Ipv4Packet}
 use Rattle.siit_icmp.specs.Errors.{is_error_kind4}
 use Rattle.siit_roles.specs.declared.settings.Settings.{Settings}
 use Rattle.siit_checksum.proofs.Fields.{length-if, length-with_field16}
-use Rattle.siit_v4to6.specs.To6.{bytes_to_6, ends_between, ends_to_6, udp_checksum6, upper_to_6}
+use Rattle.siit_v4to6.specs.To6.{bytes_to_6, ends_4_to_6, ends_to_6, udp_checksum6, upper_to_6}
 use Rattle.siit_v4to6.proofs.Good.{upper-length}
 use Rattle.siit_device.specs.Addresses.{to6}
 use Rattle.siit_device.specs.Arrival4.{is_error4}
@@ -65,11 +65,11 @@ upper-is settings packet arrived (Error error) bit not_so has is_protocol old ne
 pub upper-length_is : (settings : Settings) (packet : Ipv4Packet) (arrived : Arrived4) (upper : Upper4) → HasUpper4 settings packet upper
     → (first : Bool) → length (upper_by upper arrived first packet.payload) ≡ length packet.payload
 upper-length_is settings packet arrived Moved has first =
-    length-if first _ packet.payload (length packet.payload) (λ (_ : first ≡ true). upper-length arrived.protocol (ends_between arrived.old arrived.new) (length packet.payload) packet.payload) refl
+    length-if first _ packet.payload (length packet.payload) (λ (_ : first ≡ true). upper-length arrived.protocol (ends_4_to_6 arrived.old arrived.new) (length packet.payload) packet.payload) refl
 upper-length_is settings packet arrived Bare has first =
     length-with_field16 packet.payload 6 (udp_checksum6 arrived.new.src.0 arrived.new.dst.0 packet.payload) (omega (arith, has.header))
 upper-length_is settings packet arrived (Error error) has first =
-    length-if first _ packet.payload (length packet.payload) (λ (_ : first ≡ true). upper-length arrived.protocol (ends_between arrived.old arrived.new) (length packet.payload) packet.payload) refl
+    length-if first _ packet.payload (length packet.payload) (λ (_ : first ≡ true). upper-length arrived.protocol (ends_4_to_6 arrived.old arrived.new) (length packet.payload) packet.payload) refl
 
 -- how long a datagram is whose checksum is computed
 pub bare-long : (settings : Settings) (packet : Ipv4Packet) (upper : Upper4) → HasUpper4 settings packet upper → is_bare upper ≡ true → 8 ≤ length packet.payload

@@ -8,7 +8,7 @@ use Rattle.siit_model.specs.Ipv6.{Ipv6Packet}
 use Rattle.siit_addr.specs.declared.addr.Addresses6.{Addresses6}
 use Rattle.siit_fragments.specs.Plans.{IsPlanFor, plan_of}
 use Rattle.siit_fragments.specs.declared.cut.CutPlan.{CutPlan}
-use Rattle.siit_v4to6.specs.To6.{Head6, ends_between, header_to_6, packet6, udp_checksum6, upper_to_6}
+use Rattle.siit_v4to6.specs.To6.{Head6, ends_4_to_6, header_to_6, packet6, udp_checksum6, upper_to_6}
 use Rattle.siit_quoted.specs.Errors.{body_to_6, error_moved}
 use Rattle.siit_quoted.specs.Quotes.{written_class}
 use Rattle.siit_roles.specs.declared.settings.Settings.{Settings}
@@ -41,7 +41,7 @@ is_bare _ = false
 abbrev pub upper_by : Upper4 → Arrived4 → (first : Bool) → List ℕ → List ℕ
 upper_by upper arrived first part =
     if is_bare upper then with_field16 part 6 (udp_checksum6 arrived.new.src.0 arrived.new.dst.0 part)
-    else if first then upper_to_6 arrived.protocol (ends_between arrived.old arrived.new) (length part) part
+    else if first then upper_to_6 arrived.protocol (ends_4_to_6 arrived.old arrived.new) (length part) part
     else part
 
 -- a plan for a packet of so many bytes that is cut for an MTU

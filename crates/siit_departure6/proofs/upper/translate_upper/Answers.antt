@@ -1,7 +1,7 @@
 use Rattle.std.proofs.Common.{◌≡◌, ◌++◌, List, ℕ, true, false, take, drop, ap, sym, ◌∙◌, arith, length-drop}
 use Rattle.std.proofs.lemmas.List.{take-append-drop, take_rest}
 use Rattle.siit_model.specs.Bytes.{with_field16}
-use Rattle.siit_v4to6.specs.To6.{ends_between, udp_checksum6, upper_to_6}
+use Rattle.siit_v4to6.specs.To6.{ends_4_to_6, udp_checksum6, upper_to_6}
 use Rattle.siit_v4to6.proofs.Packets.{put-behind}
 use Rattle.siit_departure6.specs.Parts.{is_bare}
 use Rattle.siit_departure6.proofs.Uppers.{is-bare, is-later, is-moved}
@@ -30,5 +30,5 @@ returns c =
     let bare : is_bare arrived.upper ≡ false = sym c.is_bare.ensures ∙ c.if-is_bare.false in
     let begins : c.args.first ≡ true = grind (arith, c.if-not-first.false) in
     c.upper46_behind.ensures
-    ∙ ap (λ n. take c.args.at bytes ++ upper_to_6 arrived.protocol (ends_between arrived.old arrived.new) n (drop c.args.at bytes)) (sym (length-drop c.args.at bytes))
+    ∙ ap (λ n. take c.args.at bytes ++ upper_to_6 arrived.protocol (ends_4_to_6 arrived.old arrived.new) n (drop c.args.at bytes)) (sym (length-drop c.args.at bytes))
     ∙ ap (λ l. take c.args.at bytes ++ l) (sym (is-moved _ _ _ _ _ bare begins))
