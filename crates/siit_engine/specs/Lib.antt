@@ -1,0 +1,4 @@
+pub mod Placed
+pub mod Verdicts
+pub mod Placing
+pub mod Falling

@@ -1,0 +1,9 @@
+//! One device: what it makes of one packet (RFC 7915).
+#![tactic(auto)]
+
+mod arrivals;
+mod device;
+mod engine;
+mod refusals;
+
+pub use engine::{Engine, devices_act};
