@@ -7,3 +7,6 @@ mod engine;
 mod refusals;
 
 pub use engine::{Engine, devices_act};
+
+#[cfg(test)]
+mod tests;
