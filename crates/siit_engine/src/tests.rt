@@ -455,7 +455,8 @@ const ROWS6: &[Row] = &[
     ),
 ];
 
-/// A device, the side of arrival, the number that is handed in, the packet, the verdict, and what is in the buffer then.
+/// A device, the side of arrival, the number that is handed in, the packet, the verdict, and what is in the buffer
+/// then.
 type Worked = (Kind, End, u16, &'static str, Verdict, &'static str);
 
 /// Worked packets.
