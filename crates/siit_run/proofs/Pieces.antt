@@ -1,12 +1,15 @@
 -- A capture that is read in pieces, piece by piece.
 use Rattle.std.proofs.Common.{◌≡◌, ℕ, zero, suc, ◌+◌, ◌-◌, ◌≤◌, ◌<◌, max, List, [], ◌∷◌, ◌++◌, length, take, drop, Bool, true, false, Option, Some, None, Result, Ok, Err, refl, ap, sym, subst, ◌∙◌, arith, if◌then◌else◌, ◌==◌}
-use Rattle.std.specs.Prelude.{option_map}
+use Rattle.std.specs.Prelude.{◌≢◌, IsSome, option_map}
 use Rattle.std.proofs.lemmas.List.{take-append-drop, drop-drop}
 use Rattle.siit_word.specs.Files.{Copies, held, raised}
+use Rattle.siit_capture.specs.Captures.{faulty, records_at, records_from}
 use Rattle.siit_capture.specs.Fronts.{Front, bad, cut, done, whole}
 use Rattle.siit_capture.specs.Heads.{head_front}
-use Rattle.siit_capture.specs.Readings.{Reading, behind_head, fed, records_fed, records_to_come, with_piece, without_record, IsGiven, OnNoRecord, OnNone, OnRecord}
+use Rattle.siit_capture.specs.Readings.{Reading, behind_head, fed, records_fed, records_to_come, with_piece, without_record, IsGiven, OnNoRecord, OnNone}
 use Rattle.siit_capture.specs.Records.{Record}
+use Rattle.siit_capture.specs.declared.form.CaptureFault.{CaptureFault}
+use Rattle.siit_capture.specs.declared.form.CaptureFault.TheVariants.{CutRecord}
 use Rattle.siit_capture.specs.declared.form.Form.{Form}
 use Rattle.siit_capture.specs.declared.head.Head.{Head}
 use Rattle.siit_run.specs.Ahead.{IsReadTo}
@@ -108,3 +111,15 @@ given_one head found first old new h count place =
       counted = omega (arith, counted, count);
       further = omega (arith, at, place);
     }
+
+-- no bytes have no fault but that bytes are missing
+no_bytes : (form : Option Form) (place : ℕ) (rest : List ℕ) (at : ℕ) (fault : CaptureFault) → place + length rest ≤ 0 → records_at form place (rest ++ []) ≡ faulty at fault → fault ≢ CutRecord → ⊥
+unfolding records_from
+no_bytes form place (byte ∷ rest) at fault none is uncut = omega (arith, none)
+no_bytes None place [] at fault none is uncut = let same : fault ≡ CutRecord = cc in uncut same
+no_bytes (Some form) place [] at fault none is uncut = cc
+
+-- a file is there where a fault of its bytes is told
+pub there_by : (file : Option (List ℕ)) (reading : Reading) (at : ℕ) (fault : CaptureFault) → fed reading ≤ length (held file) → ((more : List ℕ) → records_to_come reading more ≡ faulty at fault) → fault ≢ CutRecord → IsSome file
+there_by (Some bytes) reading at fault low is uncut = refl
+there_by None reading at fault low is uncut = absurd (no_bytes reading.form reading.place reading.rest at fault low (is []) uncut)

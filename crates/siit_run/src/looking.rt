@@ -1,8 +1,9 @@
 //! The next record of a capture in a file, which is read in pieces.
-ghost use Rattle.std.specs.Prelude.{◌≡◌, ◌≢◌, ◌+◌, ◌<◌, ◌≤◌, [], ◌∷◌, ℕ, length, IfOk, IfSome, IsTrue, None, Ok, Err};
+ghost use Rattle.std.specs.Prelude.{◌≡◌, ◌≢◌, ◌+◌, ◌<◌, ◌≤◌, [], ◌∷◌, ℕ, length, IfOk, IfSome, IsSome, IsTrue, None, Ok, Err};
 ghost use Rattle.siit_capture.specs.Captures.{Records, one_more};
 ghost use Rattle.siit_capture.specs.Readings.{fed, records_fed, HasNoRecord};
 ghost use Rattle.siit_capture.specs.Records.{Record};
+ghost use Rattle.siit_capture.specs.declared.form.CaptureFault.{CaptureFault};
 ghost use Rattle.siit_word.specs.Files.{held, ReadFailed, Touches};
 ghost use Rattle.siit_run.specs.Ahead.{IsReadTo};
 ghost use Rattle.siit_run.specs.Looks.{records_left, EndsSo, Finds, GivesOne};
@@ -43,6 +44,8 @@ pub fn look<F: Files>(
         → length (held ((F.meaning files.old).contents name.now)) ≤ fed reader.new }
     ensures too_long { result ≡ Err Stop.TooLong → IsTrue ((F.meaning files.old).told name.now)
         → 4294967296 < length (held ((F.meaning files.old).contents name.now)) }
+    ensures there { (fault : CaptureFault) → result ≡ Err (Stop.Bad fault) → IsTrue ((F.meaning files.old).told name.now)
+        → IsSome ((F.meaning files.old).contents name.now) }
     ensures cause { result ≡ Err Stop.Failed → ReadFailed (F.meaning files.old) (F.meaning files.new) name.now }
     ensures fed { IsTrue ((F.meaning files.old).told name.now) → fed reader.new ≤ length (held ((F.meaning files.old).contents name.now)) }
     ensures few { fed reader.new ≤ 4294967296 }

@@ -15,7 +15,7 @@ use Rattle.siit_run.specs.Runs.{begun, head_fault, is_earlier, stopped}
 use Rattle.siit_running.specs.Ends.{HaveLooked, IsChosen, IsLookFault, ReadOn, StandsAt, rest_of, source_at}
 use Rattle.siit_running.specs.Inputs.{AreTold, IsTold, IsTooLong, IsWithin, ReadFailedAt}
 use Rattle.siit_running.specs.Looking.{IsUnreadable}
-use Rattle.siit_running.specs.Sources.{CaptureFile, HasLooked, IsCounted, IsFedNear, IsReadToIn, IsReadWhole, IsSource, IsToldIn, ReadsOn, file_named, given_before, later_in, rest_by, rest_in}
+use Rattle.siit_running.specs.Sources.{CaptureFile, FailsWhereItMay, HasLooked, IsCounted, IsFedNear, IsReadToIn, IsReadWhole, IsSource, IsToldIn, MayFailAt, ReadsOn, file_named, given_before, later_in, rest_by, rest_in}
 use Rattle.siit_running.specs.Turns.{HasNoFault, earlier_of, head_judged, head_origin, is_before, next_end, next_told}
 use Rattle.siit_running.specs.declared.captures.Captures.{Captures}
 use Rattle.siit_running.specs.declared.fault.RunFault.{RunFault}
@@ -128,28 +128,32 @@ pub begun_right : (left right : Option CaptureFault) (end : End) (place : ℕ) (
 begun_right left right end place fault e p none is =
     ap (λ l. begun l right) none ∙ ap (λ r. begun None r) is ∙ ap (λ (x : End). stopped x 0 fault) (sym e) ∙ ap (λ n. stopped end n fault) (sym p)
 
+-- a fault that stands next stands where the capture may have one
+pub may_fail : (file : Option CaptureFile) (source : Source) (n : Next) → source.next ≡ Some n → IsSource file source → (place : ℕ) (f : CaptureFault) → n ≡ next.Fault place f → MayFailAt file place
+may_fail file source n is s place f h = subst (λ (o : Option Next). FailsWhereItMay file o) (is ∙ ap Some h) s.fails
+
 -- a fault that a head is judged by is one of the capture
-judged_kind : (n : Next) (end : End) (fault : RunFault) → Err fault ≡ head_judged end n → (f : CaptureFault) × (fault ≡ BadCapture end 0 f)
+judged_kind : (n : Next) (end : End) (fault : RunFault) → Err fault ≡ head_judged end n → (f : CaptureFault) × (fault ≡ BadCapture end 0 f) × (n ≡ next.Fault 0 f)
 judged_kind (next.Record head) end fault is = cc
 judged_kind next.End end fault is = cc
-judged_kind (next.Fault zero f) end fault is = (f, cc)
+judged_kind (next.Fault zero f) end fault is = (f, cc, refl)
 judged_kind (next.Fault (suc place) f) end fault is = cc
 
 module _ (a c : FilesMeaning) (names : End → Option (List ℕ)) (old new : Captures) (P : End → ℕ → CaptureFault → Type 0) where
-  pub judged_fault : (n : Next) (end : End) (fault : RunFault) → Err fault ≡ head_judged end n → (AreTold a names → (e : End) (place : ℕ) (f : CaptureFault) → fault ≡ BadCapture e place f → P e place f) → IsLookFault a c names old new P fault
-  judged_fault n end fault is h =
+  pub judged_fault : (n : Next) (end : End) (fault : RunFault) → Err fault ≡ head_judged end n → ((place : ℕ) (f : CaptureFault) → n ≡ next.Fault place f → MayFailAt (file_named a (names end)) place) → (AreTold a names → (e : End) (place : ℕ) (f : CaptureFault) → fault ≡ BadCapture e place f → P e place f) → IsLookFault a c names old new P fault
+  judged_fault n end fault is may h =
       let kind = judged_kind n end fault is in
-      subst (λ (x : RunFault). IsLookFault a c names old new P x) (sym kind.1) (λ told. h told end 0 kind.0 kind.1)
+      subst (λ (x : RunFault). IsLookFault a c names old new P x) (sym kind.1) (may 0 kind.0 kind.2, λ told. h told end 0 kind.0 kind.1)
 
   told_kind : (n : Next) (end : End) (fault : RunFault) → Err fault ≡ next_told end n → (place : ℕ) × (f : CaptureFault) × (fault ≡ BadCapture end place f) × (n ≡ next.Fault place f)
   told_kind (next.Record head) end fault is = cc
   told_kind next.End end fault is = cc
   told_kind (next.Fault place f) end fault is = (place, f, cc, refl)
 
-  pub told_fault : (n : Next) (end : End) (fault : RunFault) → Err fault ≡ next_told end n → (AreTold a names → (place : ℕ) (f : CaptureFault) → n ≡ next.Fault place f → P end place f) → IsLookFault a c names old new P fault
-  told_fault n end fault is h =
+  pub told_fault : (n : Next) (end : End) (fault : RunFault) → Err fault ≡ next_told end n → ((place : ℕ) (f : CaptureFault) → n ≡ next.Fault place f → MayFailAt (file_named a (names end)) place) → (AreTold a names → (place : ℕ) (f : CaptureFault) → n ≡ next.Fault place f → P end place f) → IsLookFault a c names old new P fault
+  told_fault n end fault is may h =
       let kind = told_kind n end fault is in
-      subst (λ (x : RunFault). IsLookFault a c names old new P x) (sym kind.2) (λ told. h told kind.0 kind.1 kind.3)
+      subst (λ (x : RunFault). IsLookFault a c names old new P x) (sym kind.2) (may kind.0 kind.1 kind.3, λ told. h told kind.0 kind.1 kind.3)
 
 -- Whose record comes next
 

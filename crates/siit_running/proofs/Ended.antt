@@ -19,7 +19,7 @@ module _ {D : Type 0} (chain : Chain D) (coming coming_new : ℕ → ℕ → ℕ
   part_of (Ok counts) h = tt
   part_of (Err (faults.ReadFault end)) h = (h.1 told).part
   part_of (Err faults.WriteFault) h = (h.1 told).part
-  part_of (Err (faults.BadCapture end place fault)) h = part_of_all (text_of (whole_run chain coming before names).trace.log) (h told).grew
+  part_of (Err (faults.BadCapture end place fault)) h = part_of_all (text_of (whole_run chain coming before names).trace.log) (h.1 told).grew
   part_of (Err (faults.TooLong end)) h = h.1 told
   part_of (Err faults.NoMemory) h = h told
 

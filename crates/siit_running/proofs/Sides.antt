@@ -1,5 +1,5 @@
 -- Files of captures, over calls that leave them as they are.
-use Rattle.std.proofs.Common.{◌≡◌, ◌≢◌, ℕ, ◌+◌, ◌≤◌, List, [], Bool, Option, Some, None, IsTrue, refl, ap, sym, subst, ◌∙◌, arith}
+use Rattle.std.proofs.Common.{◌≡◌, ◌≢◌, ℕ, ◌+◌, ◌≤◌, List, [], Bool, Option, Some, None, is_some, IsTrue, refl, ap, sym, subst, ◌∙◌, arith}
 use Rattle.siit_word.specs.Files.{FilesMeaning, Touches, held}
 use Rattle.siit_word.proofs.Touched.{touches_among, touches_then}
 use Rattle.siit_chain.specs.Outputs.{some_name}
@@ -17,8 +17,8 @@ told_in files (Some name) told = told
 pub file_same : {a b : FilesMeaning} {reads writes : List (List ℕ)} → Touches a b reads writes → (name : Option (List ℕ)) → IsApart name writes → file_named b name ≡ file_named a name
 file_same only None apart = refl
 file_same {a} {b} only (Some name) apart =
-    ap (λ (t : Bool). Some (record { told = t; bytes = held (b.contents name) })) (only.told name)
-    ∙ ap (λ (f : Option (List ℕ)). Some (record { told = a.told name; bytes = held f })) (only.contents name apart)
+    ap (λ (t : Bool). Some (record { told = t; there = is_some (b.contents name); bytes = held (b.contents name) })) (only.told name)
+    ∙ ap (λ (f : Option (List ℕ)). Some (record { told = a.told name; there = is_some f; bytes = held f })) (only.contents name apart)
 
 pub apart_none : (name : Option (List ℕ)) → IsApart name []
 apart_none None = tt

@@ -29,7 +29,7 @@ use Rattle.siit_running.specs.Answers.{GrewBetween, HasRun, IsNotFarAhead, rest_
 use Rattle.siit_running.specs.Ends.{HasBadHead, HasFault, HaveLooked, IsLookFault, IsPart, ReadOn, HoldsAfter, RunIsWhole, StopsNear, heads_judged, rest_of, source_at}
 use Rattle.siit_running.specs.Faults.{run_fault}
 use Rattle.siit_running.specs.Inputs.{AreNoneOf, AreTold, IsTooLong, IsWithin, ReadFailedAt, names_of, records_named, started_run, whole_run}
-use Rattle.siit_running.specs.Sources.{CaptureFile, IsFedNear, file_named, new_source, rest_in}
+use Rattle.siit_running.specs.Sources.{CaptureFile, IsFedNear, MayFailAt, file_named, new_source, rest_in}
 use Rattle.siit_running.specs.Turns.{StopsAt}
 use Rattle.siit_running.specs.declared.captures.Captures.{Captures}
 use Rattle.siit_running.specs.declared.fault.RunFault.{RunFault}
@@ -160,7 +160,8 @@ module _ {D : Type 0} (chain : Chain D) (coming : ℕ → ℕ → ℕ) (names : 
   pub unjudged : (fault : RunFault) → IsLookFault mid now names old new (HasBadHead mid names old) fault → HoldsAfter chain coming coming names outs before now (Err fault)
   unjudged (faults.ReadFault end) h = (failed_since now (names end) wrote h.0, λ told. record { part = part_now; ahead = inr (not_far told h.1) })
   unjudged faults.WriteFault h = absurd h
-  unjudged (faults.BadCapture end place fault) h = λ told. bad_head end place fault (h (told_mid told))
+  unjudged (faults.BadCapture end place fault) h =
+      (subst (λ (f : Option CaptureFile). MayFailAt f place) (same end) h.0, λ told. bad_head end place fault (h.1 (told_mid told)))
   unjudged (faults.TooLong end) h = (long_since before mid (names end) (same end) h, λ told. part_now)
   unjudged faults.NoMemory h = absurd h
 
@@ -251,7 +252,8 @@ module _ {D : Type 0} (chain : Chain D) (coming_before coming : ℕ → ℕ → 
     pub look_stops : (fault : RunFault) → IsLookFault now mid names old seen (HasFault now names old) fault → HoldsAfter chain coming_before coming names outs before mid (Err fault)
     look_stops (faults.ReadFault end) h = (failed_since mid (names end) r.only h.0, λ told. stays_near told h.1)
     look_stops faults.WriteFault h = absurd h
-    look_stops (faults.BadCapture end place fault) h = λ told. faulty_now end place fault (h (told_here told)) told
+    look_stops (faults.BadCapture end place fault) h =
+        (subst (λ (f : Option CaptureFile). MayFailAt f place) (file_now end) h.0, λ told. faulty_now end place fault (h.1 (told_here told)) told)
     look_stops (faults.TooLong end) h = (long_since before now (names end) (file_now end) h, λ told. part_mid told)
     look_stops faults.NoMemory h = absurd h
 

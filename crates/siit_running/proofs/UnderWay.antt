@@ -199,7 +199,7 @@ module _ (source : Source) (head : Head) (number : ℕ) (is : source.next ≡ So
   pub past_source : (file : Option CaptureFile) → IsSource file source → IsSource file (past_record number source)
   past_source file s =
       let counted = head_counted file s in
-      record { few = s.few; counted = omega (arith, number_is, counted.0.number); from_file = past_from file s }
+      record { few = s.few; counted = omega (arith, number_is, counted.0.number); from_file = past_from file s; fails = tt }
 
   pub past_turns : turns_left (past_record number source) < turns_left source
   past_turns = let same : turns_left source ≡ turns_by (Some (next.Record head)) source.reader.place = ap (λ (o : Option Next). turns_by o source.reader.place) is in omega (arith, same)

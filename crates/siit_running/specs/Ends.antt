@@ -15,7 +15,7 @@ use Rattle.siit_chain.specs.declared.origin.Output.{Output}
 use Rattle.siit_run.specs.Runs.{Course, Run, begun, finished, head_fault, stopped}
 use Rattle.siit_running.specs.Answers.{AreCounts, HasRun, IsNotFarAhead, AreUnread}
 use Rattle.siit_running.specs.Inputs.{AreTold, IsTooLong, IsWithin, ReadFailedAt, started_run, whole_run}
-use Rattle.siit_running.specs.Sources.{HasLooked, IsFedNear, IsReadToIn, IsSource, file_named, rest_in, turns_left}
+use Rattle.siit_running.specs.Sources.{HasLooked, IsFedNear, IsReadToIn, IsSource, MayFailAt, file_named, rest_in, turns_left}
 use Rattle.siit_running.specs.Turns.{StopsAt, head_origin, next_end}
 use Rattle.siit_running.specs.declared.captures.Captures.{Captures}
 use Rattle.siit_running.specs.declared.fault.RunFault.{RunFault}
@@ -52,7 +52,8 @@ abbrev pub IsLookFault : (before now : FilesMeaning) (names : End → Option (Li
     → (End → ℕ → CaptureFault → Type 0) → RunFault → Type 0
 IsLookFault before now names old new P (ReadFault end) = ReadFailedAt before now (names end) × ReadOn before now names old new
 IsLookFault before now names old new P WriteFault = ⊥
-IsLookFault before now names old new P (BadCapture end place fault) = AreTold before names → P end place fault
+IsLookFault before now names old new P (BadCapture end place fault) =
+    MayFailAt (file_named before (names end)) place × (AreTold before names → P end place fault)
 IsLookFault before now names old new P (TooLong end) = IsTooLong before (names end)
 IsLookFault before now names old new P NoMemory = ⊥
 
@@ -123,7 +124,8 @@ HoldsAfter chain coming_old coming_new names outs before now (Err WriteFault) =
     WriteFailedIn outs before now
     × (AreTold before names → StopsNear chain (started_run coming_old before names) (whole_run chain coming_old before names) names outs before now)
 HoldsAfter chain coming_old coming_new names outs before now (Err (BadCapture end place fault)) =
-    AreTold before names → HasRun outs before now coming_new (whole_run chain coming_old before names) (stopped end place fault)
+    MayFailAt (file_named before (names end)) place
+    × (AreTold before names → HasRun outs before now coming_new (whole_run chain coming_old before names) (stopped end place fault))
 HoldsAfter chain coming_old coming_new names outs before now (Err (TooLong end)) =
     IsTooLong before (names end) × (AreTold before names → IsPart (whole_run chain coming_old before names) outs before now)
 HoldsAfter chain coming_old coming_new names outs before now (Err NoMemory) =

@@ -1,5 +1,5 @@
 -- A capture that was carried in part, and what its source knows of the rest.
-use Rattle.std.specs.Prelude.{◌≡◌, ℕ, ◌+◌, ◌-◌, ◌*◌, ◌≤◌, List, length, Bool, Option, Some, None, IsTrue}
+use Rattle.std.specs.Prelude.{◌≡◌, ℕ, ◌+◌, ◌-◌, ◌*◌, ◌≤◌, List, length, Bool, Option, Some, None, IsTrue, is_some}
 use Rattle.siit_word.specs.Files.{FilesMeaning, held}
 use Rattle.siit_capture.specs.Captures.{Records, ended, faulty, one_more}
 use Rattle.siit_capture.specs.Readings.{Reading, fed, nothing_fed}
@@ -10,14 +10,19 @@ use Rattle.siit_running.specs.declared.next.Next.{Next}
 use Rattle.siit_running.specs.declared.next.Next.TheVariants.{Record, End, Fault}
 use Rattle.siit_running.specs.declared.source.Source.{Source}
 
--- the file that holds a capture: whether its bytes are told, and these
+-- the file that holds a capture: whether its bytes are told, whether there is such a file, and its bytes
 pub record CaptureFile : Type 0 where
   pub told : Bool
+  pub there : Bool
   pub bytes : List ℕ
 
 abbrev pub file_named : FilesMeaning → Option (List ℕ) → Option CaptureFile
 file_named files None = None
-file_named files (Some name) = Some (record { told = files.told name; bytes = held (files.contents name) })
+file_named files (Some name) = Some (record {
+  told = files.told name;
+  there = is_some (files.contents name);
+  bytes = held (files.contents name);
+})
 
 abbrev pub IsToldIn : Option CaptureFile → Type 0
 IsToldIn None = Unit {0}
@@ -78,11 +83,23 @@ abbrev pub IsReadFrom : Option CaptureFile → Source → Type 0
 IsReadFrom None source = HasNothing source.next
 IsReadFrom (Some file) source = IsTrue file.told → IsFedFrom file.bytes source
 
+-- A capture may have a fault at this place: its file is there, and the place is none behind the bytes that are read.
+abbrev pub MayFailAt : Option CaptureFile → (place : ℕ) → Type 0
+MayFailAt None place = ⊥
+MayFailAt (Some file) place = (place ≤ 4294967296) × (IsTrue file.told → IsTrue file.there)
+
+abbrev pub FailsWhereItMay : Option CaptureFile → Option Next → Type 0
+FailsWhereItMay file None = Unit {0}
+FailsWhereItMay file (Some (Record head)) = Unit {0}
+FailsWhereItMay file (Some End) = Unit {0}
+FailsWhereItMay file (Some (Fault place fault)) = MayFailAt file place
+
 -- A source of a capture, as it may be.
 pub record IsSource (file : Option CaptureFile) (source : Source) : Type 0 where
   pub few : fed source.reader ≤ 4294967296
   pub counted : IsCounted source.next source.reader source.carried
   pub from_file : IsReadFrom file source
+  pub fails : FailsWhereItMay file source.next
 
 -- a source of which nothing was read
 abbrev pub new_source : Source

@@ -14,7 +14,7 @@ ghost use Rattle.siit_word.specs.Files.{Touches};
 ghost use Rattle.siit_running.specs.Answers.{totals_told, AreCounts, HasRun, IsFileFault, IsNotFarAhead, AreUnread};
 ghost use Rattle.siit_running.specs.Ends.{HoldsAfter};
 ghost use Rattle.siit_running.specs.Inputs.{input_name, names_of, started_run, whole_run, AreNoneOf, AreTold, IsTooLong, IsWithin, ReadFailedAt};
-ghost use Rattle.siit_running.specs.Sources.{new_source};
+ghost use Rattle.siit_running.specs.Sources.{file_named, new_source, MayFailAt};
 
 use crate::captures::{Captures, Readers};
 use crate::fault::RunFault;
@@ -63,6 +63,8 @@ pub fn run<D: Device + Drop, F: Files, I: Idents>(
         (end : End) (place : ℕ) (fault : CaptureFault) → result ≡ Err (RunFault.BadCapture end place fault)
         → AreTold (F.meaning files.old) (input_name inputs.entry)
         → HasRun (name_in outs.entry) (F.meaning files.old) (F.meaning files.new) (I.coming idents.new) whole (stopped end place fault) }
+    ensures bad_place { (end : End) (place : ℕ) (fault : CaptureFault) → result ≡ Err (RunFault.BadCapture end place fault)
+        → MayFailAt (file_named (F.meaning files.old) (input_name inputs.entry end)) place }
     ensures part { let whole = whole_run (chain_of D.outcome D.measure chain.old.devices.items chain.old.left chain.old.right)
         (I.coming idents.old) (F.meaning files.old) (input_name inputs.entry) in
         AreTold (F.meaning files.old) (input_name inputs.entry)

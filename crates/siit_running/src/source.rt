@@ -12,7 +12,7 @@ ghost use Rattle.siit_run.specs.Ahead.{IsReadTo};
 ghost use Rattle.siit_run.specs.Looks.{records_left};
 ghost use Rattle.siit_running.specs.Carrying.{packet_in, CarriesAll};
 ghost use Rattle.siit_running.specs.Looking.{GivesNext, IsUnreadIn, IsUnreadable, StandsNext};
-ghost use Rattle.siit_running.specs.Sources.{file_named, turns_left, HasLooked, IsSource, ReadsOn};
+ghost use Rattle.siit_running.specs.Sources.{file_named, turns_left, FailsWhereItMay, HasLooked, IsSource, ReadsOn};
 
 use crate::fault::RunFault;
 use crate::next::Next;
@@ -120,6 +120,7 @@ fn next_in<F: Files>(
     ensures found { IsTrue ((F.meaning files.old).told name.now)
         → IfOk result (StandsNext (held ((F.meaning files.old).contents name.now)) reader.old reader.new) }
     ensures gives { IfOk result (GivesNext reader.old reader.new) }
+    ensures fails { IfOk result (λ next. FailsWhereItMay (file_named (F.meaning files.old) (Some name.now)) (Some next)) }
     ensures fault { IfErr result (IsUnreadIn end (F.meaning files.old) (F.meaning files.new) name.now (fed reader.new)) }
     ensures fed { IsTrue ((F.meaning files.old).told name.now) → fed reader.new ≤ length (held ((F.meaning files.old).contents name.now)) }
     ensures few { fed reader.new ≤ 4294967296 }

@@ -6,7 +6,7 @@ use Rattle.siit_capture.specs.Records.{Record}
 use Rattle.siit_word.specs.Files.{held, raised, Copies}
 use Rattle.siit_word.proofs.Touched.{told_after, touches_then}
 use Rattle.siit_run.specs.Ahead.{IsReadTo}
-use Rattle.siit_run.proofs.Pieces.{IsPieceOf, ends_found, fed_left, given_one, on_no_record, on_none, piece_further, piece_of, read_on, read_same}
+use Rattle.siit_run.proofs.Pieces.{IsPieceOf, ends_found, fed_left, on_no_record, on_none, piece_further, piece_of, read_on, read_same, there_by}
 use Rattle.siit_run.proofs.looking.look.Goals as goal
 
 pub returns-then-count-eq0-clause-found : goal.returns-then-count-eq0-clause-found
@@ -71,3 +71,9 @@ loop-fault-preserved g c =
           omega (arith, short, sum, c.in-Ok.ensures.bound, size, c.requires.size);
       only = touches_then before.only c.in-Ok.ensures.only;
     }
+
+pub returns-in-Err-clause-there : goal.returns-in-Err-clause-there
+returns-in-Err-clause-there g c fault is told =
+    let start = g.F.Files.meaning c.args.files.now in
+    let old = c.loop-fault.reader in
+    there_by (start.contents c.args.name.now) old old.place c.in-Err.fault (c.loop-fault.invariant.inside told) c.in-Err.ensures.fault c.in-Err.ensures.uncut

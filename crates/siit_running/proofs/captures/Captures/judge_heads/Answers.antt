@@ -7,7 +7,7 @@ use Rattle.siit_running.specs.Ends.{rest_of, HasBadHead}
 use Rattle.siit_running.specs.Inputs.{input_name}
 use Rattle.siit_running.specs.Sources.{file_named}
 use Rattle.siit_running.specs.declared.captures.Captures.{Captures}
-use Rattle.siit_running.proofs.BothLooks.{begun_left, begun_right, head_bad, head_good, judged_fault, looked_before, right_fault, source_then}
+use Rattle.siit_running.proofs.BothLooks.{begun_left, begun_right, head_bad, head_good, judged_fault, looked_before, may_fail, right_fault, source_then}
 use Rattle.siit_running.proofs.Exits.{if_err_by, on_ok_by}
 use Rattle.siit_running.proofs.Sides.{told_in}
 use Rattle.siit_running.proofs.captures.Captures.judge_heads.Goals as goal
@@ -28,7 +28,8 @@ returns-in_err-judge_head-clause-fault g c =
     let fault = c.in_err-judge_head.field-0.0 in
     let from = err_from_is_err_and c.from_residual-in_err-judge_head.result c.from_residual-in_err-judge_head.ensures.1 in
     rw (from.1, from.2)
-    (judged_fault a (g.F.Files.meaning c.look.new.files) names old new (HasBadHead a names old) c.in_ok-left.left Left fault c.in_err-judge_head.ensures (λ told e place f is.
+    (judged_fault a (g.F.Files.meaning c.look.new.files) names old new (HasBadHead a names old) c.in_ok-left.left Left fault c.in_err-judge_head.ensures
+    (may_fail (file_named a (names Left)) c.look.new.self c.in_ok-left.left c.in_ok-left.ensures.known c.in_ok-left.ensures.looked.source) (λ told e place f is.
     let bad = head_bad (file_named a (names Left)) old.left c.look.new.self c.in_ok-left.left c.in_ok-left.ensures.known c.in_ok-left.ensures.looked (told_in a (names Left) (told Left)) Left fault e place f c.in_err-judge_head.ensures is in
     begun_left (head_fault (rest_of a names old Left)) (head_fault (rest_of a names old Right)) e place f bad.0 bad.1 bad.2))
 
@@ -60,7 +61,8 @@ returns-clause-fault g c =
     let old = c.args.self.now in
     let new : Captures = record { left = c.look.new.self; right = c.look-2.new.self; piece = with_items (with_items old.piece c.look.new.piece) c.look-2.new.piece } in
     if_err_by c.judge_head-2.result _ (λ fault is.
-    judged_fault a (g.F.Files.meaning c.look-2.new.files) names old new (HasBadHead a names old) c.in_ok-right.right Right fault (sym is ∙ c.judge_head-2.ensures) (λ told e place f h.
+    judged_fault a (g.F.Files.meaning c.look-2.new.files) names old new (HasBadHead a names old) c.in_ok-right.right Right fault (sym is ∙ c.judge_head-2.ensures)
+    (may_fail (file_named a (names Right)) c.look-2.new.self c.in_ok-right.right c.in_ok-right.ensures.known (looked_before (names Right) c.in_ok-left.ensures.only old.right c.look-2.new.self c.in_ok-right.ensures.looked).source) (λ told e place f h.
     let left = head_good (file_named a (names Left)) old.left c.look.new.self c.in_ok-left.left c.in_ok-left.ensures.known c.in_ok-left.ensures.looked (told_in a (names Left) (told Left)) Left c.in_ok-judge_head.ensures in
     let looked = looked_before (names Right) c.in_ok-left.ensures.only old.right c.look-2.new.self c.in_ok-right.ensures.looked in
     let bad = head_bad (file_named a (names Right)) old.right c.look-2.new.self c.in_ok-right.right c.in_ok-right.ensures.known looked (told_in a (names Right) (told Right)) Right fault e place f (sym is ∙ c.judge_head-2.ensures) h in

@@ -7,7 +7,7 @@ use Rattle.siit_running.specs.Ends.{HasFault, IsChosen}
 use Rattle.siit_running.specs.Inputs.{input_name}
 use Rattle.siit_running.specs.Sources.{file_named}
 use Rattle.siit_running.specs.declared.captures.Captures.{Captures}
-use Rattle.siit_running.proofs.BothLooks.{have_looked, is_chosen, looked_before, no_fault, rest_fault, right_fault, source_then, told_fault, told_next}
+use Rattle.siit_running.proofs.BothLooks.{have_looked, is_chosen, looked_before, may_fail, no_fault, rest_fault, right_fault, source_then, told_fault, told_next}
 use Rattle.siit_running.proofs.Sides.{told_in}
 use Rattle.siit_running.proofs.captures.Captures.next_origin.Goals as goal
 
@@ -26,7 +26,8 @@ returns-in_err-left-2-clause-fault g c =
     let new : Captures = record { left = c.look.new.self; right = old.right; piece = with_items old.piece c.look.new.piece } in
     let from = err_from_is_err_and c.from_residual-in_err-left-2.result c.from_residual-in_err-left-2.ensures.1 in
     rw (from.1, from.2)
-    (told_fault a (g.F.Files.meaning c.look.new.files) names old new (HasFault a names old) c.in_ok-left.left Left c.in_err-left-2.field-0.0 c.in_err-left-2.ensures (λ told place f is.
+    (told_fault a (g.F.Files.meaning c.look.new.files) names old new (HasFault a names old) c.in_ok-left.left Left c.in_err-left-2.field-0.0 c.in_err-left-2.ensures
+    (may_fail (file_named a (names Left)) c.look.new.self c.in_ok-left.left c.in_ok-left.ensures.known c.in_ok-left.ensures.looked.source) (λ told place f is.
     rest_fault (file_named a (names Left)) old.left c.look.new.self c.in_ok-left.left c.in_ok-left.ensures.known c.in_ok-left.ensures.looked place f is (told_in a (names Left) (told Left))))
 
 pub returns-in_err-right-clause-fault : goal.returns-in_err-right-clause-fault
@@ -49,7 +50,8 @@ returns-in_err-right-2-clause-fault g c =
     let looked = looked_before (names Right) c.in_ok-left.ensures.only old.right c.look-2.new.self c.in_ok-right.ensures.looked in
     let before = told_next c.in_ok-left.left Left c.in_ok-left-2.left c.in_ok-left-2.ensures in
     rw (from.1, from.2)
-    (told_fault a (g.F.Files.meaning c.look-2.new.files) names old new (HasFault a names old) c.in_ok-right.right Right c.in_err-right-2.field-0.0 c.in_err-right-2.ensures (λ told place f is. (
+    (told_fault a (g.F.Files.meaning c.look-2.new.files) names old new (HasFault a names old) c.in_ok-right.right Right c.in_err-right-2.field-0.0 c.in_err-right-2.ensures
+    (may_fail (file_named a (names Right)) c.look-2.new.self c.in_ok-right.right c.in_ok-right.ensures.known (looked_before (names Right) c.in_ok-left.ensures.only old.right c.look-2.new.self c.in_ok-right.ensures.looked).source) (λ told place f is. (
       no_fault (file_named a (names Left)) old.left c.look.new.self c.in_ok-left.left c.in_ok-left.ensures.known c.in_ok-left.ensures.looked c.in_ok-left-2.left before (told_in a (names Left) (told Left)),
       rest_fault (file_named a (names Right)) old.right c.look-2.new.self c.in_ok-right.right c.in_ok-right.ensures.known looked place f is (told_in a (names Right) (told Right)),
     )))
