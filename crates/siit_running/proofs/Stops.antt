@@ -26,7 +26,7 @@ use Rattle.siit_run.specs.Laws.{HasEnded}
 use Rattle.siit_run.specs.Runs.{Course, Run, after, begun, finish, head_fault, stop, stopped, totals_of}
 use Rattle.siit_run.proofs.Turns.{Extends, after_adds, ended_is_whole_lem}
 use Rattle.siit_running.specs.Answers.{GrewBetween, HasRun, IsNotFarAhead, rest_at, totals_told}
-use Rattle.siit_running.specs.Ends.{HasBadHead, HasFault, HaveLooked, IsLookFault, IsPart, ReadOn, HoldsAfter, RunIsWhole, StopsNear, heads_judged, rest_of, source_at}
+use Rattle.siit_running.specs.Ends.{HasBadHead, HasFault, HaveLooked, IsLookFault, IsPart, ReadOn, HoldsAfterRun, RunIsWhole, StopsNear, heads_judged, rest_of, source_at}
 use Rattle.siit_running.specs.Faults.{run_fault}
 use Rattle.siit_running.specs.Inputs.{AreNoneOf, AreTold, IsTooLong, IsWithin, ReadFailedAt, names_of, records_named, started_run, whole_run}
 use Rattle.siit_running.specs.Sources.{CaptureFile, IsFedNear, MayFailAt, file_named, new_source, rest_in}
@@ -105,7 +105,7 @@ module _ {D : Type 0} (chain : Chain D) (coming coming_new : ℕ → ℕ → ℕ
   part_of_heads : GrewByPart outs before now (text_of (begins Left ∷ begins Right ∷ [])) → IsPart (whole_run chain coming before names) outs before now
   part_of_heads part = subst (λ l. GrewByPart outs before now (text_of l)) (sym heads_extend.is) (log_part_of_more (begins Left ∷ begins Right ∷ []) heads_extend.more part)
 
-  pub unwritten_heads : Touches before now [] writes → GrewByPart outs before now (text_of (begins Left ∷ begins Right ∷ [])) → WriteFailedIn outs before now → HoldsAfter chain coming coming_new names outs before now (Err faults.WriteFault)
+  pub unwritten_heads : Touches before now [] writes → GrewByPart outs before now (text_of (begins Left ∷ begins Right ∷ [])) → WriteFailedIn outs before now → HoldsAfterRun chain coming coming_new names outs before now (Err faults.WriteFault)
   unwritten_heads only part failed =
       (failed, λ told. record { part = part_of_heads part; ahead = inl (λ end name is. only.given name tt) })
 
@@ -157,7 +157,7 @@ module _ {D : Type 0} (chain : Chain D) (coming : ℕ → ℕ → ℕ) (names : 
         comes = subst (λ (r : Run). HasComing coming r.trace) whole_is (record { each = λ device k. refl });
       }
 
-  pub unjudged : (fault : RunFault) → IsLookFault mid now names old new (HasBadHead mid names old) fault → HoldsAfter chain coming coming names outs before now (Err fault)
+  pub unjudged : (fault : RunFault) → IsLookFault mid now names old new (HasBadHead mid names old) fault → HoldsAfterRun chain coming coming names outs before now (Err fault)
   unjudged (faults.ReadFault end) h = (failed_since now (names end) wrote h.0, λ told. record { part = part_now; ahead = inr (not_far told h.1) })
   unjudged faults.WriteFault h = absurd h
   unjudged (faults.BadCapture end place fault) h =
@@ -249,7 +249,7 @@ module _ {D : Type 0} (chain : Chain D) (coming_before coming : ℕ → ℕ → 
           comes = subst (λ (x : Run). HasComing coming x.trace) whole_is a.comes;
         }
 
-    pub look_stops : (fault : RunFault) → IsLookFault now mid names old seen (HasFault now names old) fault → HoldsAfter chain coming_before coming names outs before mid (Err fault)
+    pub look_stops : (fault : RunFault) → IsLookFault now mid names old seen (HasFault now names old) fault → HoldsAfterRun chain coming_before coming names outs before mid (Err fault)
     look_stops (faults.ReadFault end) h = (failed_since mid (names end) r.only h.0, λ told. stays_near told h.1)
     look_stops faults.WriteFault h = absurd h
     look_stops (faults.BadCapture end place fault) h =
@@ -262,7 +262,7 @@ module _ {D : Type 0} (chain : Chain D) (coming_before coming : ℕ → ℕ → 
     only_mid = touches_then r.only (only_read touched)
 
     -- A record wasn't carried to its end.
-    pub carry_stops : (coming_new : ℕ → ℕ → ℕ) (more : List Entry) → ((told : AreTold before names) → (after chain (suc (r.run told).turns) (started_run coming_before before names)).trace.log ≡ (after chain (r.run told).turns (started_run coming_before before names)).trace.log ++ more) → (fault : ChainFault) → GrewByPart outs mid new (text_of more) → (fault ≡ chain_fault.WriteFault → WriteFailedIn outs mid new) → HoldsAfter chain coming_before coming_new names outs before new (Err (run_fault fault))
+    pub carry_stops : (coming_new : ℕ → ℕ → ℕ) (more : List Entry) → ((told : AreTold before names) → (after chain (suc (r.run told).turns) (started_run coming_before before names)).trace.log ≡ (after chain (r.run told).turns (started_run coming_before before names)).trace.log ++ more) → (fault : ChainFault) → GrewByPart outs mid new (text_of more) → (fault ≡ chain_fault.WriteFault → WriteFailedIn outs mid new) → HoldsAfterRun chain coming_before coming_new names outs before new (Err (run_fault fault))
     carry_stops coming_new more is chain_fault.WriteFault part failed =
         (failed_on only_mid (failed refl), λ told. stops_near mid new seen touched read wrote told more (is told) part)
     carry_stops coming_new more is chain_fault.NoMemory part failed = λ told. (stops_near mid new seen touched read wrote told more (is told) part).part
@@ -283,7 +283,7 @@ module _ {D : Type 0} (chain : Chain D) (coming_before coming : ℕ → ℕ → 
           line_is (after chain a.turns (started_run coming_before before names)) (record { left_read = seen.left.carried; right_read = seen.right.carried; written = counts })
           ((looked Left).carried ∙ sym a.left_read) ((looked Right).carried ∙ sym a.right_read) a.counted
 
-      pub unended : (coming_new : ℕ → ℕ → ℕ) → GrewByPart outs mid new (only Report (end_line (totals_told (record { left_read = seen.left.carried; right_read = seen.right.carried; written = counts })))) → WriteFailedIn outs mid new → HoldsAfter chain coming_before coming_new names outs before new (Err faults.WriteFault)
+      pub unended : (coming_new : ℕ → ℕ → ℕ) → GrewByPart outs mid new (only Report (end_line (totals_told (record { left_read = seen.left.carried; right_read = seen.right.carried; written = counts })))) → WriteFailedIn outs mid new → HoldsAfterRun chain coming_before coming_new names outs before new (Err faults.WriteFault)
       unended coming_new part failed = (
         failed_on only_mid failed,
         λ told.

@@ -113,20 +113,20 @@ pub record StopsNear {D : Type 0} (chain : Chain D) (start whole : Run) (names :
   pub ahead : AreUnread before now names ⊎ IsNotFarAhead chain start names outs before now
 
 -- what holds after a run, by its answer
-abbrev pub HoldsAfter : {D : Type 0} → Chain D → (coming_old coming_new : ℕ → ℕ → ℕ) → (names : End → Option (List ℕ))
+abbrev pub HoldsAfterRun : {D : Type 0} → Chain D → (coming_old coming_new : ℕ → ℕ → ℕ) → (names : End → Option (List ℕ))
     → (outs : Output → Option (List ℕ)) → (before now : FilesMeaning) → Result RunCounts RunFault → Type 0
-HoldsAfter chain coming_old coming_new names outs before now (Ok counts) =
+HoldsAfterRun chain coming_old coming_new names outs before now (Ok counts) =
     AreTold before names → RunIsWhole (whole_run chain coming_old before names) coming_new names outs before now counts
-HoldsAfter chain coming_old coming_new names outs before now (Err (ReadFault end)) =
+HoldsAfterRun chain coming_old coming_new names outs before now (Err (ReadFault end)) =
     ReadFailedAt before now (names end)
     × (AreTold before names → StopsNear chain (started_run coming_old before names) (whole_run chain coming_old before names) names outs before now)
-HoldsAfter chain coming_old coming_new names outs before now (Err WriteFault) =
+HoldsAfterRun chain coming_old coming_new names outs before now (Err WriteFault) =
     WriteFailedIn outs before now
     × (AreTold before names → StopsNear chain (started_run coming_old before names) (whole_run chain coming_old before names) names outs before now)
-HoldsAfter chain coming_old coming_new names outs before now (Err (BadCapture end place fault)) =
+HoldsAfterRun chain coming_old coming_new names outs before now (Err (BadCapture end place fault)) =
     MayFailAt (file_named before (names end)) place
     × (AreTold before names → HasRun outs before now coming_new (whole_run chain coming_old before names) (stopped end place fault))
-HoldsAfter chain coming_old coming_new names outs before now (Err (TooLong end)) =
+HoldsAfterRun chain coming_old coming_new names outs before now (Err (TooLong end)) =
     IsTooLong before (names end) × (AreTold before names → IsPart (whole_run chain coming_old before names) outs before now)
-HoldsAfter chain coming_old coming_new names outs before now (Err NoMemory) =
+HoldsAfterRun chain coming_old coming_new names outs before now (Err NoMemory) =
     AreTold before names → IsPart (whole_run chain coming_old before names) outs before now

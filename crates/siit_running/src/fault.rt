@@ -4,7 +4,7 @@ ghost use Rattle.std.specs.Prelude.{◌≡◌};
 use siit_capture::CaptureFault;
 use siit_carry::ChainFault;
 use siit_chain::End;
-use siit_word::Failed;
+use siit_word::{Failed, NoMemory};
 
 /// Why a run came to no end.
 #[derive(Clone, Copy, Debug, PartialEq, Eq)]
@@ -32,6 +32,16 @@ impl From<Failed> for RunFault {
 
     fn from(_: Failed) -> Self {
         RunFault::WriteFault
+    }
+}
+
+impl From<NoMemory> for RunFault {
+    ghost use Rattle.siit_running.specs.declared.fault.RunFault.TheVariants as faults;
+
+    ghost from_gives = { λ _ e. e ≡ faults.NoMemory };
+
+    fn from(_: NoMemory) -> Self {
+        RunFault::NoMemory
     }
 }
 

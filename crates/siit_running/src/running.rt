@@ -12,7 +12,7 @@ ghost use Rattle.siit_chain.specs.declared.origin.Output.TheVariants as outputs;
 ghost use Rattle.siit_run.specs.Runs.{finished, stopped};
 ghost use Rattle.siit_word.specs.Files.{Touches};
 ghost use Rattle.siit_running.specs.Answers.{totals_told, AreCounts, HasRun, IsFileFault, IsNotFarAhead, AreUnread};
-ghost use Rattle.siit_running.specs.Ends.{HoldsAfter};
+ghost use Rattle.siit_running.specs.Ends.{HoldsAfterRun};
 ghost use Rattle.siit_running.specs.Inputs.{input_name, names_of, started_run, whole_run, AreNoneOf, AreTold, IsTooLong, IsWithin, ReadFailedAt};
 ghost use Rattle.siit_running.specs.Sources.{file_named, new_source, MayFailAt};
 
@@ -102,7 +102,7 @@ fn carry_captures<D: Device + Drop, F: Files, I: Idents>(
     requires apart { AreApart (name_in outs) }
     requires none_of { AreNoneOf (input_name inputs) (names_in outs) }
     requires few { length chain.old.devices.items < 256 }
-    ensures ends { HoldsAfter (chain_of D.outcome D.measure chain.old.devices.items chain.old.left chain.old.right)
+    ensures ends { HoldsAfterRun (chain_of D.outcome D.measure chain.old.devices.items chain.old.left chain.old.right)
         (I.coming idents.old) (I.coming idents.new) (input_name inputs.entry) (name_in outs.entry) (F.meaning files.old) (F.meaning files.new) result }
     ensures only { Touches (F.meaning files.old) (F.meaning files.new) (names_of (input_name inputs.entry)) (names_in outs.entry) }
     ensures devices { chain.new.devices ≡ chain.old.devices }

@@ -1,0 +1,5 @@
+pub mod Anew
+pub mod Answers
+pub mod Creating
+pub mod Placing
+pub mod Unread
