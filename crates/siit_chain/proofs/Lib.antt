@@ -1,4 +1,3 @@
-pub mod Crossed
 pub mod Decimals
 pub mod Grown
 pub mod Names

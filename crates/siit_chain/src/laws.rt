@@ -1,5 +1,4 @@
 //! Laws of what is carried through a chain, each the contract of a function with no body.
-ghost use Rattle.siit_chain.specs.Crossing.{TwoDevicesCross};
 ghost use Rattle.siit_chain.specs.Laws.{EnoughTurns, OnChains, OneStep, WrittenStaysInFront};
 
 use crate::device::Device;
@@ -17,10 +16,4 @@ pub fn one_step<D: Device>()
 /// What was written before stays in front.
 pub fn written_stays_in_front<D: Device>()
     ensures { OnChains D.outcome D.measure WrittenStaysInFront }
-{}
-
-/// A packet that crosses a chain of two devices without a drop: what is written is what both make of it, one after the
-/// other, and nothing comes back.
-pub fn two_devices_cross<D: Device>()
-    ensures { OnChains D.outcome D.measure TwoDevicesCross }
 {}

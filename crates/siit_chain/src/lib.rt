@@ -9,6 +9,6 @@ mod texts;
 
 pub use device::{Device, Verdict};
 pub use examples::{carried_examples, text_examples};
-pub use laws::{enough_turns, one_step, two_devices_cross, written_stays_in_front};
+pub use laws::{enough_turns, one_step, written_stays_in_front};
 pub use origin::{Counts, End, Origin, Output, Outs};
 pub use texts::{end_line, report_line};
