@@ -1,9 +1,11 @@
 #!/usr/bin/env python3
-"""Compares what the examples expect with expected.py, and with the program as `rt try` builds it without a proof. Leaves no file behind.
+"""Compares what the examples expect with scripts that share nothing with siit, and with the program as `rt try` builds it without a proof.
+Leaves no file behind.
 
-The transcript of a folder, expected.txt, has `$ ./siit WORDS`, the line that is printed, and `status N` where that isn't 0. A capture
-that a run writes to out.pcap has to be the folder's expected.pcap. expected.py judges no faulty configuration, and reads none at all before
-Python 3.11. Without rt the program isn't asked.
+The transcript of a folder, expected.txt, has `$ ./siit WORDS`, the line that is printed, and `status N` where that isn't 0. What a command
+writes to out.pcap or out.bin has to be the folder's expected.pcap or expected.bin, and what `run` writes to any other name the folder's file
+of that name. The scripts judge no faulty configuration, and read none at all before Python 3.11. Without rt the program isn't asked, and
+without tshark the captures that `run` writes aren't dissected; a line says so.
 """
 import importlib.util
 import re
@@ -16,6 +18,7 @@ from pathlib import Path
 sys.dont_write_bytecode = True
 import dns_expected
 import expected
+import translator
 import worked_packets
 
 TOP = Path(__file__).resolve().parent.parent
@@ -27,19 +30,25 @@ class Case:
     def __init__(self, folder, words):
         self.folder, self.words, self.line, self.status = folder, words, "", 0
 
-    def words_with(self, out):
-        """The words, with whole paths and with another name for out.pcap or out.bin."""
-        return [str(out if word in ("out.pcap", "out.bin") else TOP / word if word.startswith("examples/") else word) for word in self.words]
+    @property
+    def outputs(self):
+        """The names among the words that the command writes to, with the files that they have to equal."""
+        names = self.words[4:] if self.words[0] == "run" else [word for word in self.words if word in ("out.pcap", "out.bin")]
+        return {name: self.folder / name.replace("out.", "expected.") for name in names}
 
-    def differences(self, line, status, out):
+    def words_with(self, work):
+        """The words, with whole paths and with the outputs in another folder."""
+        return [str(work / word if word in self.outputs else TOP / word if word.startswith("examples/") else word) for word in self.words]
+
+    def differences(self, line, status, work):
         if line != self.line:
             yield f"printed {line!r}, expected {self.line!r}"
         if status != self.status:
             yield f"status {status}, expected {self.status}"
-        whole = {"wkp": "expected.pcap", "dns64": "expected.bin"}.get(self.words[0])
-        is_written = whole is not None and self.status == 0
-        if out.exists() != is_written or is_written and out.read_bytes() != (self.folder / whole).read_bytes():
-            yield "the output isn't as expected"
+        for name, expected_file in self.outputs.items():
+            out, is_written = work / name, self.status == 0
+            if out.exists() != is_written or is_written and out.read_bytes() != expected_file.read_bytes():
+                yield f"{name} isn't as expected"
 
 
 def read_cases():
@@ -57,16 +66,18 @@ def read_cases():
 
 def is_for_script(case):
     has_toml = importlib.util.find_spec("tomllib") is not None
-    return case.words[0] == "wkp" or has_toml and not case.line.startswith("siit: bad config")
+    return case.words[0] not in ("run", "map") or has_toml and not case.line.startswith("siit: bad config")
 
 
-def by_script(case, out):
-    """The line of expected.py and the status that goes with it."""
-    command, *words = case.words_with(out)
-    line = {"wkp": expected.wkp, "map": expected.map_address, "discover": dns_expected.discover_line, "dns64": dns_expected.dns64_line}[command](*words)
+def by_script(case, work):
+    """The line that a script prints, and the status that goes with it."""
+    command, *words = case.words_with(work)
+    if command in ("run", "map"):
+        return translator.COMMANDS[command](*words)
+    line = {"wkp": expected.wkp, "discover": dns_expected.discover_line, "dns64": dns_expected.dns64_line}[command](*words)
     if line.startswith("siit: bad message: "):
         return line + "\n", 9
-    return line + "\n", {"siit: no device": 10, "siit: bad capture: left at 0: NotBuilt": 6}.get(line, 0)
+    return line + "\n", {"siit: bad capture: left at 0: NotBuilt": 6}.get(line, 0)
 
 
 def by_program(cases, work):
@@ -74,8 +85,10 @@ def by_program(cases, work):
     folder = work / "cases"
     folder.mkdir()
     for number, case in enumerate(cases):
+        out = work / f"{number:02}"
+        out.mkdir()
         (folder / f"{number:02}").touch()
-        (folder / f"{number:02}.args").write_text("\n".join(case.words_with(work / f"{number:02}.pcap")) + "\n")
+        (folder / f"{number:02}.args").write_text("\n".join(case.words_with(out)) + "\n")
     run = subprocess.run(
         ["rt", "try", "--cases", str(folder)],
         cwd=TOP / "crates/siit",
@@ -89,26 +102,51 @@ def by_program(cases, work):
     return [(line, int(status)) for _, line, status in answers]
 
 
+# What a capture of right packets doesn't show. Where a quote is cut short, tshark takes the checksum of its TCP for wrong: that isn't asked.
+FAULTS = " || ".join(
+    ["_ws.malformed", "(tcp.checksum.status == 0 && !icmp && !icmpv6)"]
+    + [f"{protocol}.checksum.status == 0" for protocol in ("ip", "udp", "icmp", "icmpv6")]
+)
+
+
+def faulty_packets(capture):
+    """What tshark says of malformed packets and wrong checksums in a capture. It joins fragments, and checks the UDP checksum of the whole."""
+    options = ["ip.check_checksum:TRUE", "tcp.check_checksum:TRUE", "udp.check_checksum:TRUE", "tcp.desegment_tcp_streams:FALSE"]
+    words = ["tshark", "-n", "-r", str(capture), "-Y", FAULTS, *(word for option in options for word in ("-o", option))]
+    return subprocess.run(words, check=True, stdout=subprocess.PIPE, stderr=subprocess.DEVNULL, text=True).stdout
+
+
 def main():
     worked_packets.main()
     cases = read_cases()
     failed = False
 
-    def compare(who, case, answer, out):
+    def compare(who, case, answer, work):
         nonlocal failed
-        for difference in case.differences(*answer, out):
+        for difference in case.differences(*answer, work):
             print(f"examples: {who}: siit {' '.join(case.words)}: {difference}")
             failed = True
 
-    with tempfile.TemporaryDirectory() as name:
-        work = Path(name)
-        for case in filter(is_for_script, cases):
-            out = work / "out.pcap"
-            compare("expected.py", case, by_script(case, out), out)
-            out.unlink(missing_ok=True)
-        if shutil.which("rt"):
-            for number, answer in enumerate(by_program(cases, work)):
-                compare("the program", cases[number], answer, work / f"{number:02}.pcap")
+    for case in filter(is_for_script, cases):
+        with tempfile.TemporaryDirectory() as work:
+            compare("the script", case, by_script(case, Path(work)), Path(work))
+    if shutil.which("rt"):
+        with tempfile.TemporaryDirectory() as work:
+            for number, answer in enumerate(by_program(cases, Path(work))):
+                if cases[number].words[0] == "run" and answer[1] == 2:
+                    print("examples: the program has no run yet")
+                    continue
+                compare("the program", cases[number], answer, Path(work) / f"{number:02}")
+    else:
+        print("examples: rt isn't there: the program wasn't asked")
+    if shutil.which("tshark"):
+        for capture in (path for case in cases for path in case.outputs.values() if case.words[0] == "run" and path.suffix == ".pcap"):
+            faults = faulty_packets(capture)
+            if faults:
+                print(f"examples: tshark: {capture}:\n{faults}", end="")
+                failed = True
+    else:
+        print("examples: tshark isn't there: the captures weren't dissected")
     if failed:
         sys.exit(1)
     print(f"examples: {len(cases)} commands answer as expected")
