@@ -3,6 +3,7 @@
 
     translator.py run CONFIG LEFT RIGHT OUTLEFT OUTRIGHT REPORT
     translator.py wkp IN OUT
+    translator.py make N SEED CONFIG LEFT OUTLEFT OUTRIGHT REPORT
     translator.py map CONFIG DEVICE ADDRESS
 
 writes what `siit` has to write, prints the line that it has to print and ends with its status. A configuration has to be without fault.
@@ -917,6 +918,26 @@ def wkp(name_in, name_out):
     return answer
 
 
+def generated(count, seed):
+    """The capture of so many UDP packets that `make` writes: a linear congruential generator chooses their addresses, sizes and DF."""
+    yield EMPTY
+    for place in range(count):
+        seed = (seed * 6364136223846793005 + 1442695040888963407) % 2**64
+        rest, size = divmod(seed // 65536, 1473)
+        rest, df = divmod(rest, 2)
+        source, destination = int(IPv4Address("8.8.4.1")) + rest % 254, int(IPv4Address("192.0.2.1")) + rest // 254 % 4
+        data = bytes((place + at) % 256 for at in range(size))
+        datagram = struct.pack(">HHHH", 1024 + place % 64000, 53, 8 + size, 0) + data
+        datagram = put16(datagram, 6, checksum(pseudo4(source, destination, UDP, 8 + size) + datagram) or 65535)
+        packet = header4(0, 28 + size, place % 65536, df, False, 0, 64, UDP, source, destination) + datagram
+        yield struct.pack("<IIII", place // 1000, place % 1000 * 10**6, len(packet), len(packet)) + packet
+
+
+def make(count, seed, config, left, *outputs):
+    write(left, b"".join(generated(int(count), int(seed))))
+    return run(config, left, "-", *outputs)
+
+
 def map_address(config, number, text):
     _, devices = read_config(config)
     if not 1 <= int(number) <= len(devices):
@@ -929,7 +950,7 @@ def map_address(config, number, text):
     return f"{address} {other} {found.means}{f' {found.entry}' if found.entry else ''}\n", 0
 
 
-COMMANDS = {"run": run, "wkp": wkp, "map": map_address}
+COMMANDS = {"run": run, "wkp": wkp, "make": make, "map": map_address}
 
 
 def main(words):
