@@ -3,9 +3,9 @@
 Leaves no file behind.
 
 The transcript of a folder, expected.txt, has `$ ./siit WORDS`, the line that is printed, and `status N` where that isn't 0. What a command
-writes to out.pcap or out.bin has to be the folder's expected.pcap or expected.bin, and what `run` writes to any other name the folder's file
-of that name. The scripts judge no faulty configuration, and read none at all before Python 3.11. Without rt the program isn't asked, and
-without tshark the captures that `run` writes aren't dissected; a line says so.
+writes to out.pcap, or to out_left.pcap, has to be the folder's expected.pcap, or expected_left.pcap; what it writes to outleft.pcap or
+report.txt has to be the folder's file of that name. The scripts judge no faulty words and no faulty configuration, and read none at all before
+Python 3.11. Without rt the program isn't asked, and without tshark the captures that are written aren't dissected; a line says so.
 """
 import importlib.util
 import re
@@ -17,7 +17,6 @@ from pathlib import Path
 
 sys.dont_write_bytecode = True
 import dns_expected
-import expected
 import translator
 import worked_packets
 
@@ -33,8 +32,8 @@ class Case:
     @property
     def outputs(self):
         """The names among the words that the command writes to, with the files that they have to equal."""
-        names = self.words[4:] if self.words[0] == "run" else [word for word in self.words if word in ("out.pcap", "out.bin")]
-        return {name: self.folder / name.replace("out.", "expected.") for name in names}
+        names = [word for word in self.words if re.fullmatch(r"out.*|report\.txt", word)]
+        return {name: self.folder / re.sub(r"^out(?=[._])", "expected", name) for name in names}
 
     def words_with(self, work):
         """The words, with whole paths and with the outputs in another folder."""
@@ -66,18 +65,16 @@ def read_cases():
 
 def is_for_script(case):
     has_toml = importlib.util.find_spec("tomllib") is not None
-    return case.words[0] not in ("run", "map") or has_toml and not case.line.startswith("siit: bad config")
+    return (has_toml or case.words[0] not in ("run", "map")) and not case.line.startswith(("siit: bad config", "siit: bad words"))
 
 
 def by_script(case, work):
     """The line that a script prints, and the status that goes with it."""
     command, *words = case.words_with(work)
-    if command in ("run", "map"):
+    if command in translator.COMMANDS:
         return translator.COMMANDS[command](*words)
-    line = {"wkp": expected.wkp, "discover": dns_expected.discover_line, "dns64": dns_expected.dns64_line}[command](*words)
-    if line.startswith("siit: bad message: "):
-        return line + "\n", 9
-    return line + "\n", {"siit: bad capture: left at 0: NotBuilt": 6}.get(line, 0)
+    line = {"discover": dns_expected.discover_line, "dns64": dns_expected.dns64_line}[command](*words)
+    return line + "\n", 9 if line.startswith("siit: bad message: ") else 0
 
 
 def by_program(cases, work):
@@ -133,14 +130,11 @@ def main():
     if shutil.which("rt"):
         with tempfile.TemporaryDirectory() as work:
             for number, answer in enumerate(by_program(cases, Path(work))):
-                if cases[number].words[0] == "run" and answer[1] == 2:
-                    print("examples: the program has no run yet")
-                    continue
                 compare("the program", cases[number], answer, Path(work) / f"{number:02}")
     else:
         print("examples: rt isn't there: the program wasn't asked")
     if shutil.which("tshark"):
-        for capture in (path for case in cases for path in case.outputs.values() if case.words[0] == "run" and path.suffix == ".pcap"):
+        for capture in sorted({path for case in cases if case.status == 0 for path in case.outputs.values() if path.suffix == ".pcap"}):
             faults = faulty_packets(capture)
             if faults:
                 print(f"examples: tshark: {capture}:\n{faults}", end="")
