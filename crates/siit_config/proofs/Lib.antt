@@ -1,3 +1,4 @@
+pub mod Accepted
 pub mod Boundary
 pub mod Documents
 pub mod KeyLaws
