@@ -1,9 +1,9 @@
 -- The devices of an accepted configuration, key by key.
-use Rattle.std.proofs.Common.{◌≡◌, ◌⊎◌, ℕ, ℤ, pos, negsuc, suc, ◌+◌, ◌≤◌, List, [], ◌∷◌, length, codes, Bool, true, false, not, ◌&&◌, ◌||◌, nat_le, nat_lt, if◌then◌else◌, Option, Some, None, Result, Ok, Err, IsTrue, ap, refl, inl, inr, arith}
+use Rattle.std.proofs.Common.{◌≡◌, ◌⊎◌, ℕ, ℤ, pos, negsuc, suc, ◌+◌, ◌^◌, ◌<◌, ◌≤◌, List, [], ◌∷◌, length, codes, Bool, true, false, not, ◌&&◌, ◌||◌, nat_le, nat_lt, Option, Some, None, Result, Ok, Err, IsTrue, ap, refl, inl, inr, arith}
 use Rattle.std.specs.List.{All}
 use Rattle.std.proofs.lemmas.Bool.{and_parts, not-true, leb-true, ltb-false}
-use Rattle.std.proofs.lemmas.List.Elements.{All-cons, All-nil}
-use Rattle.toml.specs.Data.{Data, Members, get_member, as_integer, as_str, as_table}
+use Rattle.std.proofs.lemmas.List.Elements.{All-cons, All-head, All-nil, All-tail}
+use Rattle.toml.specs.Data.{Data, Items, no_items, item, Members, as_array, get_member, as_integer, as_str, as_table}
 use Rattle.siit_addr.specs.Prefixes.{addr4_of_text, addr6_of_text}
 use Rattle.siit_addr.specs.declared.addr.Addr4.{Addr4}
 use Rattle.siit_addr.specs.declared.addr.Prefix4.{Prefix4}
@@ -14,14 +14,18 @@ use Rattle.siit_eamt.specs.Disjoint.{is_disjoint}
 use Rattle.siit_eamt.specs.Faults.{table_fault}
 use Rattle.siit_map.specs.Mapping.{Mapping, table, customer}
 use Rattle.siit_rfc6052.specs.Embedding.{is_embedding_prefix}
-use Rattle.siit_addr.specs.Prefixes.{prefix6_of_text}
+use Rattle.siit_addr.specs.Prefixes.{prefix4_of_text, prefix6_of_text}
 use Rattle.siit_roles.specs.Chain.{Chain}
+use Rattle.siit_roles.specs.declared.role.Role.{Role}
+use Rattle.siit_roles.specs.declared.role.Role.TheVariants.{Plain, Border, Edge, Customer}
 use Rattle.siit_roles.specs.declared.settings.Settings.{Settings}
 use Rattle.siit_config.specs.Config.{chain_settings_of, config_of, devices_of, document_of}
-use Rattle.siit_config.specs.Devices.{device_of, eam_of, hairpin_of, known_keys, local_of, mapping_entries_of, mapping_of, must, pool4_of, table_of}
-use Rattle.siit_config.specs.Keys.{array_of, flag_or, key, no_others, number_or, text, text_or, value_of}
-use Rattle.siit_config.specs.Laws.{IsAcceptedDevice, IsAcceptedMapping, IsDisjointMapping, symmetric_of}
-use Rattle.siit_config.specs.Texts.{addresses4_of, either_name, embedding_of, family_of, number_within, pool_of, role_of}
+use Rattle.siit_config.specs.Devices.{device_of, entry_in, eam_of, hairpin_of, known_keys, local_of, mapping_entries_of, mapping_of, must, pool4_of, table_of}
+use Rattle.siit_config.specs.Keys.{all_of, array_of, flag_or, key, no_others, number_or, text, text_or, two_texts, value_of}
+use Rattle.siit_config.specs.Laws.{IsAcceptedDevice, IsAcceptedMapping, IsDisjointMapping, IsEntryInRange, symmetric_of}
+use Rattle.siit_config.proofs.Options.{bool_or, none_or_some, passed}
+use Rattle.siit_config.proofs.TextRanges.{prefix4_small, prefix6_small}
+use Rattle.siit_config.specs.Texts.{addresses4_of, either_name, embedding_of, family_of, mapping_entry_of, number_within, pool_of, role_of}
 
 -- an outcome that came of another
 pub record Bound {A B : Type 0} (r : Result A Fault) (f : A → Result B Fault) (b : B) : Type 0 where
@@ -40,23 +44,10 @@ pub ok_or_err : {A : Type 0} (r : Result A Fault) → ((a : A) × (r ≡ Ok a)) 
 ok_or_err (Ok a) = inl (a, refl)
 ok_or_err (Err fault) = inr (fault, refl)
 
-pub bool_or : (b : Bool) → (b ≡ true) ⊎ (b ≡ false)
-bool_or true = inl refl
-bool_or false = inr refl
-
-pub none_or_some : {X : Type 0} (o : Option X) → (o ≡ None) ⊎ ((x : X) × (o ≡ Some x))
-none_or_some None = inl refl
-none_or_some (Some x) = inr (x, refl)
-
 -- a value that was there
 pub was_there : {X : Type 0} (fault : Fault) (o : Option X) (x : X) → or_fault fault o ≡ Ok x → o ≡ Some x
 was_there fault None x h = absurd (cc)
 was_there fault (Some y) x h = cc
-
--- a value that passed
-pub passed : {X : Type 0} (test : Bool) (x y : X) → (if test then Some x else None) ≡ Some y → (test ≡ true) × (x ≡ y)
-passed true x y h = (refl, cc)
-passed false x y h = absurd (cc)
 
 -- NUMBERS
 
@@ -127,24 +118,29 @@ has_pool device members address pool h = value_pool address device (codes "pool4
 
 -- THE PREFIX
 
-embedding_embeds : (content : List ℕ) (prefix : Prefix6) → embedding_of content ≡ Some prefix → IsTrue (is_embedding_prefix prefix.len prefix.addr.0)
+-- a prefix of 128 bits under which addresses are embedded
+pub record IsPrefix (prefix : Prefix6) : Type 0 where
+  pub embeds : IsTrue (is_embedding_prefix prefix.len prefix.addr.0)
+  pub in_range : prefix.addr.0 < 2 ^ 128
+
+embedding_embeds : (content : List ℕ) (prefix : Prefix6) → embedding_of content ≡ Some prefix → IsPrefix prefix
 embedding_embeds content prefix h =
     elim (none_or_some (prefix6_of_text content)) [
       | inl none ↦ let gone = rw none at h in absurd (cc)
       | inr some ↦
           let both = passed (is_embedding_prefix some.0.len some.0.addr.0) some.0 prefix (rw some.1 at h) in
-          rw (← both.1) both.0
+          rw (← both.1) (record { embeds = both.0; in_range = prefix6_small content some.0 some.1 })
     ]
 
 value_embeds : (device : ℕ) (name : List ℕ) (found : Option Data) (prefix : Prefix6)
-    → value_of as_str embedding_of None device name found ≡ Ok prefix → IsTrue (is_embedding_prefix prefix.len prefix.addr.0)
+    → value_of as_str embedding_of None device name found ≡ Ok prefix → IsPrefix prefix
 value_embeds device name None prefix h = absurd (cc)
 value_embeds device name (Some datum) prefix h =
     let both = bound (or_fault (wrong_kind device name) (as_str datum)) (λ value. or_fault (bad_value device name) (embedding_of value)) prefix h in
     embedding_embeds both.value prefix (was_there (bad_value device name) (embedding_of both.value) prefix both.rest)
 
 pub embeds : (device : ℕ) (members : Members) (prefix : Prefix6) → text device members embedding_of (codes "prefix") ≡ Ok prefix
-    → IsTrue (is_embedding_prefix prefix.len prefix.addr.0)
+    → IsPrefix prefix
 embeds device members prefix h = value_embeds device (codes "prefix") (get_member (codes "prefix") members) prefix h
 
 -- THE TABLE
@@ -152,6 +148,83 @@ embeds device members prefix h = value_embeds device (codes "prefix") (get_membe
 pub held : (fault : Fault) (test : Bool) (done : Unit {0}) → must fault test ≡ Ok done → test ≡ true
 held fault true done h = refl
 held fault false done h = absurd (cc)
+
+-- an entry in range, if there is one
+abbrev pub IsInRangeIf : Option Eam → Type 0
+IsInRangeIf None = Unit {0}
+IsInRangeIf (Some entry) = IsEntryInRange entry
+
+texts_in_range : (texts : List ℕ × List ℕ) → IsInRangeIf (mapping_entry_of texts)
+texts_in_range texts =
+    elim (none_or_some (prefix4_of_text texts.0)) as (λ _. IsInRangeIf (mapping_entry_of texts)) [
+      | inl none ↦ rw none tt
+      | inr four ↦ elim (none_or_some (prefix6_of_text texts.1)) as (λ _. IsInRangeIf (mapping_entry_of texts)) [
+        | inl none ↦ rw (four.1, none) tt
+        | inr six ↦ rw (four.1, six.1) (record { four = prefix4_small texts.0 four.0 four.1; six = prefix6_small texts.1 six.0 six.1 })
+      ]
+    ]
+
+entry_in_range : (value : Data) (entry : Option Eam) → entry_in value ≡ Some entry → IsInRangeIf entry
+entry_in_range value entry h =
+    elim (none_or_some (two_texts value)) [
+      | inl none ↦ let gone = rw none at h in absurd (cc)
+      | inr texts ↦
+          let made = rw texts.1 at h in
+          let same : mapping_entry_of texts.0 ≡ entry = cc in
+          rw (← same) (texts_in_range texts.0)
+    ]
+
+items_in_range : (items : Items) (entries : List (Option Eam)) → all_of entry_in items ≡ Some entries → All IsInRangeIf entries
+items_in_range no_items entries h = let same : [] ≡ entries = cc in rw (← same) (All-nil IsInRangeIf)
+items_in_range (item value items) entries h =
+    elim (none_or_some (entry_in value)) [
+      | inl none ↦ let gone = rw none at h in absurd (cc)
+      | inr entry ↦
+          let h1 = rw entry.1 at h in
+          elim (none_or_some (all_of entry_in items)) [
+            | inl none ↦ let gone = rw none at h1 in absurd (cc)
+            | inr rest ↦
+                let made = rw rest.1 at h1 in
+                let same : entry.0 ∷ rest.0 ≡ entries = cc in
+                rw (← same) (All-cons IsInRangeIf entry.0 rest.0 (entry_in_range value entry.0 entry.1) (items_in_range items rest.0 rest.1))
+          ]
+    ]
+
+array_in_range : (value : Data) (entries : List (Option Eam)) → array_of entry_in value ≡ Some entries → All IsInRangeIf entries
+array_in_range value entries h =
+    elim (none_or_some (as_array value)) [
+      | inl none ↦ let gone = rw none at h in absurd (cc)
+      | inr items ↦ items_in_range items.0 entries (rw items.1 at h)
+    ]
+
+value_in_range : (device : ℕ) (name : List ℕ) (found : Option Data) (entries : List (Option Eam))
+    → value_of (array_of entry_in) (λ entries. Some entries) (Some []) device name found ≡ Ok entries → All IsInRangeIf entries
+value_in_range device name None entries h = let same : [] ≡ entries = cc in rw (← same) (All-nil IsInRangeIf)
+value_in_range device name (Some datum) entries h =
+    let both = bound (or_fault (wrong_kind device name) (array_of entry_in datum)) (λ value. or_fault (bad_value device name) (Some value)) entries h in
+    let same = ok_is (Ok both.value) both.value entries refl both.rest in
+    rw (← same) (array_in_range datum both.value (was_there (wrong_kind device name) (array_of entry_in datum) both.value both.first))
+
+pub eam_in_range : (device : ℕ) (document : Members) (role : Role) (entries : List (Option Eam)) → eam_of device document role ≡ Ok entries
+    → All IsInRangeIf entries
+eam_in_range device document Customer entries h = let same : [] ≡ entries = ok_is (Ok []) [] entries refl h in rw (← same) (All-nil IsInRangeIf)
+eam_in_range device document Plain entries h = value_in_range device (codes "eam") (get_member (codes "eam") document) entries h
+eam_in_range device document Border entries h = value_in_range device (codes "eam") (get_member (codes "eam") document) entries h
+eam_in_range device document Edge entries h = value_in_range device (codes "eam") (get_member (codes "eam") document) entries h
+
+entries_in_range : (device before : ℕ) (told : List (Option Eam)) (entries : List Eam) → All IsInRangeIf told
+    → mapping_entries_of device before told ≡ Ok entries → All IsEntryInRange entries
+entries_in_range device before [] entries small h = let same : [] ≡ entries = ok_is (Ok []) [] entries refl h in rw (← same) (All-nil IsEntryInRange)
+entries_in_range device before (None ∷ rest) entries small h = absurd (cc)
+entries_in_range device before (Some entry ∷ told) entries small h =
+    elim (ok_or_err (mapping_entries_of device (before + 1) told)) [
+      | inr wrong ↦ let gone = rw wrong.1 at h in absurd (cc)
+      | inl rest ↦
+          let h1 = rw rest.1 at h in
+          let same : entry ∷ rest.0 ≡ entries = ok_is (Ok (entry ∷ rest.0)) (entry ∷ rest.0) entries refl h1 in
+          rw (← same) (All-cons IsEntryInRange entry rest.0 (All-head IsInRangeIf (Some entry) told small)
+          (entries_in_range device (before + 1) told rest.0 (All-tail IsInRangeIf (Some entry) told small) rest.1))
+    ]
 
 -- what a table's mapping is
 pub record IsTableMapping (symmetric : Bool) (mapped : Mapping) : Type 0 where
@@ -163,28 +236,33 @@ disjoint_if true disjoint h e = h
 disjoint_if false disjoint h e = absurd (cc)
 
 table_mapped : (symmetric : Bool) (device : ℕ) (prefix : Prefix6) (entries : List Eam) (mapped : Mapping)
-    → IsTrue (is_embedding_prefix prefix.len prefix.addr.0) → table_of symmetric device prefix entries ≡ Ok mapped → IsTableMapping symmetric mapped
-table_mapped symmetric device prefix entries mapped good h =
+    → IsPrefix prefix → All IsEntryInRange entries → table_of symmetric device prefix entries ≡ Ok mapped → IsTableMapping symmetric mapped
+table_mapped symmetric device prefix entries mapped good small h =
     elim (none_or_some (table_fault entries)) [
       | inl none ↦
           let rest = bound (must (not_symmetric device) (not symmetric || is_disjoint entries prefix)) (λ done. Ok (table entries prefix)) mapped (rw none at h) in
           let test = held (not_symmetric device) (not symmetric || is_disjoint entries prefix) rest.value rest.first in
           let same : table entries prefix ≡ mapped = ok_is (Ok (table entries prefix)) (table entries prefix) mapped refl rest.rest in
           rw (← same) (record {
-            accepted = record { accepted = none; embeds = good };
-            disjoint = λ e. disjoint_if symmetric (is_disjoint entries prefix) test e;
+            accepted = record { accepted = none; embeds = good.embeds; entries_in_range = small; prefix_in_range = good.in_range };
+            disjoint = λ e. record {
+              accepted = none;
+              embeds = good.embeds;
+              in_range = good.in_range;
+              disjoint = disjoint_if symmetric (is_disjoint entries prefix) test e;
+            };
           })
       | inr some ↦ let gone = rw some.1 at h in absurd (cc)
     ]
 
 pub mapping_is : (symmetric : Bool) (device : ℕ) (prefix : Prefix6) (local : Option (Prefix4 × Prefix6)) (entries : List (Option Eam)) (mapped : Mapping)
-    → IsTrue (is_embedding_prefix prefix.len prefix.addr.0) → mapping_of symmetric device prefix local entries ≡ Ok mapped → IsTableMapping symmetric mapped
-mapping_is symmetric device prefix (Some local) entries mapped good h =
+    → IsPrefix prefix → All IsInRangeIf entries → mapping_of symmetric device prefix local entries ≡ Ok mapped → IsTableMapping symmetric mapped
+mapping_is symmetric device prefix (Some local) entries mapped good small h =
     let same : customer local.0 local.1 prefix ≡ mapped = ok_is (Ok (customer local.0 local.1 prefix)) (customer local.0 local.1 prefix) mapped refl h in
     rw (← same) (record { accepted = tt; disjoint = λ e. tt })
-mapping_is symmetric device prefix None entries mapped good h =
+mapping_is symmetric device prefix None entries mapped good small h =
     let both = bound (mapping_entries_of device 0 entries) (table_of symmetric device prefix) mapped h in
-    table_mapped symmetric device prefix both.value mapped good both.rest
+    table_mapped symmetric device prefix both.value mapped good (entries_in_range device 0 entries both.value small both.first) both.rest
 
 -- ONE DEVICE
 
@@ -281,7 +359,7 @@ device_is symmetric device document settings h =
                                                                                                     let least6 = between device document 1500 1280 65535 (codes "mtu6") mtu6.0 (record { least = omega arith; most = omega arith }) mtu6.1 in
                                                                                                     let least_lowest = between device document 1280 1280 65535 (codes "lowest_mtu6") lowest.0 (record { least = omega arith; most = omega arith }) lowest.1 in
                                                                                                     let ordered = in_order mtu6.0 lowest.0 (held (mtu_order device) (not (nat_lt mtu6.0 lowest.0)) order.0 order.1) in
-                                                                                                    let kept = mapping_is symmetric device prefix.0 local.0 entries.0 mapped.0 (embeds device document prefix.0 prefix.1) mapped.1 in
+                                                                                                    let kept = mapping_is symmetric device prefix.0 local.0 entries.0 mapped.0 (embeds device document prefix.0 prefix.1) (eam_in_range device document role.0 entries.0 entries.1) mapped.1 in
                                                                                                     rw (← same) (record {
                                                                                                       good = record {
                                                                                                         limits = record {
