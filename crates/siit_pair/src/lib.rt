@@ -2,3 +2,6 @@
 //! a pair is, and the laws that a datagram comes across it as itself.
 #![tactic(auto)]
 
+mod pair;
+
+pub use pair::is_pair;
