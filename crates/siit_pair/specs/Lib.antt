@@ -1,2 +1,4 @@
 pub mod Pairs
 pub mod Across
+pub mod Same
+pub mod Examples

@@ -2,6 +2,8 @@
 //! a pair is, and the laws that a datagram comes across it as itself.
 #![tactic(auto)]
 
+mod equal;
 mod pair;
+mod transport;
 
 pub use pair::is_pair;
