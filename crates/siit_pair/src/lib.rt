@@ -3,7 +3,9 @@
 #![tactic(auto)]
 
 mod equal;
+mod laws;
 mod pair;
 mod transport;
 
+pub use laws::addresses_come_back;
 pub use pair::is_pair;
