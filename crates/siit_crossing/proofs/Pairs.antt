@@ -25,8 +25,8 @@ use Rattle.siit_cutting.proofs.Lists.{map-flat_map}
 use Rattle.siit_engine.specs.Falling.{engine_falls}
 use Rattle.siit_engine.specs.Placed.{Placed}
 use Rattle.siit_crossing.specs.Across.{GoesTo4, GoesTo6, IsNotTurned, IsPassage, NoneTurns, PacketCrosses, Passage, RecordsCrossBoth, all_between, entries_across, last_met, packets_across, read_again, settings_at, two_devices}
-use Rattle.siit_crossing.specs.Carrying.{Captured, IsCarried, IsComing, IsStillToCome, entering_of, packet_entering}
-use Rattle.siit_crossing.specs.Entries.{IsUnnamed, entries_of, entries_of_all, packet_leaving, packets_leaving}
+use Rattle.siit_crossing.specs.Carrying.{Captured, IsRecordCarried, IsComing, IsStillToCome, entering_of, packet_entering}
+use Rattle.siit_crossing.specs.Entries.{IsUnnamed, entries_of_record, entries_of_records, packet_leaving, packets_leaving}
 use Rattle.siit_crossing.specs.Laws.{NoneTurnsOf, PacketsCrossBoth, UnnamedRecordsCrossBoth}
 use Rattle.siit_crossing.proofs.Crossed.{Crosses, Forwards, crosses, place_first, place_second}
 use Rattle.siit_crossing.proofs.Devices.{bytes_to_4, bytes_to_6, sends-to_4, sends-to_6}
@@ -178,7 +178,7 @@ record RecordCrosses (coming : ℕ → ℕ → ℕ) (end : End) (first second : 
   passage : Passage
   captured_is : passage.captured ≡ captured
   is : IsPassage coming end first second passage
-  entries : entries_of end captured.number log ≡ entries_across end second passage
+  entries : entries_of_record end captured.number log ≡ entries_across end second passage
 
 module _ (cross : PacketsCrossBoth) (left right : Settings) (coming : ℕ → ℕ → ℕ) (end : End) (log : List Entry) where
   abbrev one : Settings
@@ -187,7 +187,7 @@ module _ (cross : PacketsCrossBoth) (left right : Settings) (coming : ℕ → �
   abbrev two : Settings
   two = settings_at (other_end end) left right
 
-  record-crosses : (captured : Captured) → IsCarried (two_devices left right) coming end captured log → IsUnnamed end captured.number log → NoneTurnsOf one two captured
+  record-crosses : (captured : Captured) → IsRecordCarried (two_devices left right) coming end captured log → IsUnnamed end captured.number log → NoneTurnsOf one two captured
       → RecordCrosses coming end one two captured log
   record-crosses captured c unnamed none =
       let chain : Chain Placed = two_devices left right in
@@ -220,7 +220,7 @@ record Gathered (coming : ℕ → ℕ → ℕ) (end : End) (first second : Setti
   passages : List Passage
   records_are : map (λ passage. passage.captured) passages ≡ records
   each : All (IsPassage coming end first second) passages
-  entries : entries_of_all end (map (λ captured. captured.number) records) log ≡ flat_map (entries_across end second) passages
+  entries : entries_of_records end (map (λ captured. captured.number) records) log ≡ flat_map (entries_across end second) passages
 
 gather : (coming : ℕ → ℕ → ℕ) (end : End) (first second : Settings) (records : List Captured) (log : List Entry)
     → All (λ captured. RecordCrosses coming end first second captured log) records → Gathered coming end first second records log

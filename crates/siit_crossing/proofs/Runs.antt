@@ -14,8 +14,8 @@ use Rattle.siit_chain.specs.declared.origin.End.{End}
 use Rattle.siit_chain.specs.declared.origin.End.TheVariants.{Left, Right}
 use Rattle.siit_chain.specs.declared.origin.Origin.{Origin}
 use Rattle.siit_run.specs.Runs.{Course, Run, after, begun, carry_left, carry_record, carry_right, finish, finished, going, head_fault, is_earlier, origin_of, run_of, started, stop, stopped, totals_of, turn_at, turn_on, turns_of}
-use Rattle.siit_crossing.specs.Carrying.{Captured, IsCaptured, IsCarried, IsStillToCome, capture_at, read_at, record_numbered}
-use Rattle.siit_crossing.specs.Entries.{comes_of, entries_from, entries_of, entries_of_all, is_from, is_of, is_same_end}
+use Rattle.siit_crossing.specs.Carrying.{Captured, IsCaptured, IsRecordCarried, IsStillToCome, capture_at, read_at, record_numbered}
+use Rattle.siit_crossing.specs.Entries.{comes_of, entries_of_capture, entries_of_record, entries_of_records, is_from, is_of, is_same_end}
 use Rattle.siit_crossing.specs.Laws.{EachRecordIsCarried, FinishedRunsCarryAll, NumbersAreComing}
 use Rattle.siit_crossing.proofs.Own.{Adds, filter-other, filter-own, record-adds, still-same}
 
@@ -53,11 +53,11 @@ and-true false b one two = absurd cc
 -- a log with the entries of one record behind it
 record Grows (e : End) (number : ℕ) (found : Record) (old new more : List Entry) : Type 0 where
   log : new ≡ old ++ more
-  from_here : entries_from e new ≡ entries_from e old ++ more
-  from_there : (end : End) → is_same_end end e ≡ false → entries_from end new ≡ entries_from end old
-  of_it : entries_of e number new ≡ entries_of e number old ++ more
-  of_others : (n : ℕ) → (n ≡ number → ⊥) → entries_of e n new ≡ entries_of e n old
-  of_there : (end : End) (n : ℕ) → is_same_end end e ≡ false → entries_of end n new ≡ entries_of end n old
+  from_here : entries_of_capture e new ≡ entries_of_capture e old ++ more
+  from_there : (end : End) → is_same_end end e ≡ false → entries_of_capture end new ≡ entries_of_capture end old
+  of_it : entries_of_record e number new ≡ entries_of_record e number old ++ more
+  of_others : (n : ℕ) → (n ≡ number → ⊥) → entries_of_record e n new ≡ entries_of_record e n old
+  of_there : (end : End) (n : ℕ) → is_same_end end e ≡ false → entries_of_record end n new ≡ entries_of_record end n old
 
 joined : (test : Entry → Bool) (old new more kept : List Entry) → new ≡ old ++ more → filter test more ≡ kept → filter test new ≡ filter test old ++ kept
 joined test old new more kept is part = ap (filter test) is ∙ filter-append test old more ∙ ap (λ l. filter test old ++ l) part
@@ -82,8 +82,8 @@ grows e number found coming t result more adds =
     }
 
 -- entries of some records, where none of them has more
-all-same : (end : End) (numbers : List ℕ) (old new : List Entry) → AllByRecursion (λ n. entries_of end n new ≡ entries_of end n old) numbers
-    → entries_of_all end numbers new ≡ entries_of_all end numbers old
+all-same : (end : End) (numbers : List ℕ) (old new : List Entry) → AllByRecursion (λ n. entries_of_record end n new ≡ entries_of_record end n old) numbers
+    → entries_of_records end numbers new ≡ entries_of_records end numbers old
 all-same end [] old new same = refl
 all-same end (n ∷ numbers) old new same = λ i. same.0 i ++ all-same end numbers old new same.1 i
 
@@ -132,9 +132,9 @@ module _ {D : Type 0} (chain : Chain D) (coming : ℕ → ℕ → ℕ) (left rig
     rest : (end : End) → drop (read_at end run) (list_of (capture_at end left right)) ≡ list_of (rest_at end run)
     within : (end : End) → read_at end run ≤ length (list_of (capture_at end left right))
     carried : (end : End) (captured : Captured) → IsCaptured (capture_at end left right) captured → captured.number ≤ read_at end run
-        → IsCarried chain coming end captured run.trace.log
-    none : (end : End) (number : ℕ) → read_at end run < number → entries_of end number run.trace.log ≡ []
-    order : (end : End) → entries_from end run.trace.log ≡ entries_of_all end (range_with_len 1 (read_at end run)) run.trace.log
+        → IsRecordCarried chain coming end captured run.trace.log
+    none : (end : End) (number : ℕ) → read_at end run < number → entries_of_record end number run.trace.log ≡ []
+    order : (end : End) → entries_of_capture end run.trace.log ≡ entries_of_records end (range_with_len 1 (read_at end run)) run.trace.log
     behind_all : run.course ≡ finished → (end : End) → list_of (rest_at end run) ≡ []
 
   -- the record of an end that is carried next
@@ -176,11 +176,11 @@ module _ {D : Type 0} (chain : Chain D) (coming : ℕ → ℕ → ℕ) (left rig
     here-drop : drop (read_at e run) (list_of (capture_at e left right)) ≡ found ∷ list_of rest
     here-drop = so_far.rest e ∙ here
 
-    carried-kept : (end : End) (captured : Captured) → IsCarried chain coming end captured run.trace.log
-        → entries_of end captured.number next.trace.log ≡ entries_of end captured.number run.trace.log → IsCarried chain coming end captured next.trace.log
+    carried-kept : (end : End) (captured : Captured) → IsRecordCarried chain coming end captured run.trace.log
+        → entries_of_record end captured.number next.trace.log ≡ entries_of_record end captured.number run.trace.log → IsRecordCarried chain coming end captured next.trace.log
     carried-kept end captured c same = record { now = c.now; still = c.still; entries = same ∙ c.entries }
 
-    carried-now : (captured : Captured) → IsCaptured (capture_at e left right) captured → captured.number ≡ number → IsCarried chain coming e captured next.trace.log
+    carried-now : (captured : Captured) → IsCaptured (capture_at e left right) captured → captured.number ≡ number → IsRecordCarried chain coming e captured next.trace.log
     carried-now captured captured_is last =
         let last_suc : captured.number ≡ suc (read_at e run) = omega (arith, last) in
         let at : slice_get (list_of (capture_at e left right)) (read_at e run) ≡ Some captured.found =
@@ -191,7 +191,7 @@ module _ {D : Type 0} (chain : Chain D) (coming : ℕ → ℕ → ℕ) (left rig
           now = run.trace.coming;
           still = so_far.still;
           entries =
-              ap (λ n. entries_of e n next.trace.log) last
+              ap (λ n. entries_of_record e n next.trace.log) last
               ∙ grown.of_it
               ∙ ap (λ l. l ++ more) (so_far.none e number (omega arith))
               ∙ ap (λ f. (carry_record chain e (read_at e run + 1) f (fresh run.trace.coming)).log) same
@@ -223,40 +223,40 @@ module _ {D : Type 0} (chain : Chain D) (coming : ℕ → ℕ → ℕ) (left rig
     ]
 
     next-carried : (end : End) (captured : Captured) → (end ≡ e) ⊎ AreApart end e → IsCaptured (capture_at end left right) captured → captured.number ≤ read_at end next
-        → IsCarried chain coming end captured next.trace.log
+        → IsRecordCarried chain coming end captured next.trace.log
     next-carried end captured by captured_is few = elim by [
-      | inl same ↦ subst (λ x. IsCaptured (capture_at x left right) captured → captured.number ≤ read_at x next → IsCarried chain coming x captured next.trace.log) (sym same) at_it
+      | inl same ↦ subst (λ x. IsCaptured (capture_at x left right) captured → captured.number ≤ read_at x next → IsRecordCarried chain coming x captured next.trace.log) (sym same) at_it
           captured_is few
       | inr apart ↦ carried-kept end captured (so_far.carried end captured captured_is (omega (arith, there-read end apart.is, few)))
           (grown.of_there end captured.number apart.test)
     ]
       where
-        at_it : IsCaptured (capture_at e left right) captured → captured.number ≤ read_at e next → IsCarried chain coming e captured next.trace.log
+        at_it : IsCaptured (capture_at e left right) captured → captured.number ≤ read_at e next → IsRecordCarried chain coming e captured next.trace.log
         at_it captured_here few_here =
             ⊎_elim (λ last. carried-now captured captured_here last)
             (λ other. carried-kept e captured (so_far.carried e captured captured_here (omega (arith, is.read_here, few_here, other))) (grown.of_others captured.number other))
             (cases_eq captured.number (read_at e run + 1))
 
-    next-none : (end : End) (n : ℕ) → (end ≡ e) ⊎ AreApart end e → read_at end next < n → entries_of end n next.trace.log ≡ []
+    next-none : (end : End) (n : ℕ) → (end ≡ e) ⊎ AreApart end e → read_at end next < n → entries_of_record end n next.trace.log ≡ []
     next-none end n by above = elim by [
-      | inl same ↦ subst (λ x. read_at x next < n → entries_of x n next.trace.log ≡ []) (sym same) at_it above
+      | inl same ↦ subst (λ x. read_at x next < n → entries_of_record x n next.trace.log ≡ []) (sym same) at_it above
       | inr apart ↦ grown.of_there end n apart.test ∙ so_far.none end n (omega (arith, there-read end apart.is, above))
     ]
       where
-        at_it : read_at e next < n → entries_of e n next.trace.log ≡ []
+        at_it : read_at e next < n → entries_of_record e n next.trace.log ≡ []
         at_it beyond = grown.of_others n (λ same. omega (arith, is.read_here, beyond, same)) ∙ so_far.none e n (omega (arith, is.read_here, beyond))
 
-    next-order : (end : End) → (end ≡ e) ⊎ AreApart end e → entries_from end next.trace.log ≡ entries_of_all end (range_with_len 1 (read_at end next)) next.trace.log
+    next-order : (end : End) → (end ≡ e) ⊎ AreApart end e → entries_of_capture end next.trace.log ≡ entries_of_records end (range_with_len 1 (read_at end next)) next.trace.log
     next-order end by = elim by [
-      | inl same ↦ subst (λ x. entries_from x next.trace.log ≡ entries_of_all x (range_with_len 1 (read_at x next)) next.trace.log) (sym same) (at_it (omega (arith, is.read_here)))
+      | inl same ↦ subst (λ x. entries_of_capture x next.trace.log ≡ entries_of_records x (range_with_len 1 (read_at x next)) next.trace.log) (sym same) (at_it (omega (arith, is.read_here)))
       | inr apart ↦
           grown.from_there end apart.test ∙ so_far.order end
           ∙ sym (all-same end (range_with_len 1 (read_at end run)) run.trace.log next.trace.log
-          (in-range (λ n. entries_of end n next.trace.log ≡ entries_of end n run.trace.log) 1 (read_at end run) (λ n low high. grown.of_there end n apart.test)))
-          ∙ ap (λ k. entries_of_all end (range_with_len 1 k) next.trace.log) (sym (there-read end apart.is))
+          (in-range (λ n. entries_of_record end n next.trace.log ≡ entries_of_record end n run.trace.log) 1 (read_at end run) (λ n low high. grown.of_there end n apart.test)))
+          ∙ ap (λ k. entries_of_records end (range_with_len 1 k) next.trace.log) (sym (there-read end apart.is))
     ]
       where
-        at_it : read_at e next ≡ suc (read_at e run) → entries_from e next.trace.log ≡ entries_of_all e (range_with_len 1 (read_at e next)) next.trace.log
+        at_it : read_at e next ≡ suc (read_at e run) → entries_of_capture e next.trace.log ≡ entries_of_records e (range_with_len 1 (read_at e next)) next.trace.log
         at_it one =
             let numbers : List ℕ = range_with_len 1 (read_at e run) in
             let last : 1 + read_at e run ≡ read_at e run + 1 = omega arith in
@@ -264,15 +264,15 @@ module _ {D : Type 0} (chain : Chain D) (coming : ℕ → ℕ → ℕ) (left rig
             ∙ ap (λ l. l ++ more) (so_far.order e)
             ∙ ap (λ l. l ++ more)
             (sym (all-same e numbers run.trace.log next.trace.log
-            (in-range (λ n. entries_of e n next.trace.log ≡ entries_of e n run.trace.log) 1 (read_at e run) (λ n low high. grown.of_others n (λ same. omega (arith, high, same))))))
-            ∙ ap (λ l. entries_of_all e numbers next.trace.log ++ l)
-            (sym (ap (λ n. entries_of e n next.trace.log ++ []) last
-            ∙ append-nil (entries_of e (read_at e run + 1) next.trace.log)
+            (in-range (λ n. entries_of_record e n next.trace.log ≡ entries_of_record e n run.trace.log) 1 (read_at e run) (λ n low high. grown.of_others n (λ same. omega (arith, high, same))))))
+            ∙ ap (λ l. entries_of_records e numbers next.trace.log ++ l)
+            (sym (ap (λ n. entries_of_record e n next.trace.log ++ []) last
+            ∙ append-nil (entries_of_record e (read_at e run + 1) next.trace.log)
             ∙ grown.of_it
             ∙ ap (λ l. l ++ more) (so_far.none e (read_at e run + 1) (omega arith))))
-            ∙ sym (flat_map-append (λ n. entries_of e n next.trace.log) numbers ((1 + read_at e run) ∷ []))
-            ∙ ap (λ l. entries_of_all e l next.trace.log) (sym (range-last 1 (read_at e run)))
-            ∙ ap (λ k. entries_of_all e (range_with_len 1 k) next.trace.log) (sym one)
+            ∙ sym (flat_map-append (λ n. entries_of_record e n next.trace.log) numbers ((1 + read_at e run) ∷ []))
+            ∙ ap (λ l. entries_of_records e l next.trace.log) (sym (range-last 1 (read_at e run)))
+            ∙ ap (λ k. entries_of_records e (range_with_len 1 k) next.trace.log) (sym one)
 
     going-not : (course : Course) → course ≡ going → course ≡ finished → ⊥
     going-not course one two = cc
@@ -292,7 +292,7 @@ module _ {D : Type 0} (chain : Chain D) (coming : ℕ → ℕ → ℕ) (left rig
   module _ (run next : Run) (so_far : SoFar run) (read : (end : End) → read_at end next ≡ read_at end run) (rest : (end : End) → rest_at end next ≡ rest_at end run)
       (coming_same : next.trace.coming ≡ run.trace.coming) (tail : List Entry) (log : next.trace.log ≡ run.trace.log ++ tail)
       (tail_none : (test : Origin → Bool) → filter (comes_of test) tail ≡ []) where
-    kept-of : (end : End) (n : ℕ) → entries_of end n next.trace.log ≡ entries_of end n run.trace.log
+    kept-of : (end : End) (n : ℕ) → entries_of_record end n next.trace.log ≡ entries_of_record end n run.trace.log
     kept-of end n = joined-none (comes_of (is_of end n)) run.trace.log next.trace.log tail log (tail_none (is_of end n))
 
     kept-so : (next.course ≡ finished → (end : End) → list_of (rest_at end run) ≡ []) → SoFar next
@@ -308,8 +308,8 @@ module _ {D : Type 0} (chain : Chain D) (coming : ℕ → ℕ → ℕ) (left rig
           joined-none (comes_of (is_from end)) run.trace.log next.trace.log tail log (tail_none (is_from end))
           ∙ so_far.order end
           ∙ sym (all-same end (range_with_len 1 (read_at end run)) run.trace.log next.trace.log
-          (in-range (λ n. entries_of end n next.trace.log ≡ entries_of end n run.trace.log) 1 (read_at end run) (λ n low high. kept-of end n)))
-          ∙ ap (λ n. entries_of_all end (range_with_len 1 n) next.trace.log) (sym (read end));
+          (in-range (λ n. entries_of_record end n next.trace.log ≡ entries_of_record end n run.trace.log) 1 (read_at end run) (λ n low high. kept-of end n)))
+          ∙ ap (λ n. entries_of_records end (range_with_len 1 n) next.trace.log) (sym (read end));
       behind_all = λ is_over end. ap list_of (rest end) ∙ over is_over end;
     }
 
@@ -419,7 +419,7 @@ finished_runs_carry_all chain coming left right over =
       read = all-read chain coming left right over;
       order = λ end.
           (whole-so chain coming left right).order end
-          ∙ ap (λ n. entries_of_all end (range_with_len 1 n) run.trace.log) (all-read chain coming left right over end);
+          ∙ ap (λ n. entries_of_records end (range_with_len 1 n) run.trace.log) (all-read chain coming left right over end);
     }
 
 pub numbers_are_coming : {D : Type 0} (chain : Chain D) → NumbersAreComing chain

@@ -25,7 +25,7 @@ use Rattle.siit_cutting.specs.Laws.{Numbered, given_to_4}
 use Rattle.siit_engine.specs.Placed.{Placed}
 use Rattle.siit_network.specs.Networks.{network}
 use Rattle.siit_crossing.specs.Carrying.{Captured, IsComing, packet_entering}
-use Rattle.siit_crossing.specs.Entries.{entries_of_all, packets_leaving}
+use Rattle.siit_crossing.specs.Entries.{entries_of_records, packets_leaving}
 use Rattle.siit_crossing.specs.Sent.{arrived_in}
 
 -- TWO DEVICES
@@ -123,10 +123,10 @@ pub record RecordsCrossBoth (coming : ℕ → ℕ → ℕ) (end : End) (first se
   pub passages : List Passage
   pub records_are : map (λ passage. passage.captured) passages ≡ records
   pub each : All (IsPassage coming end first second) passages
-  pub entries : entries_of_all end (map (λ captured. captured.number) records) log ≡ flat_map (entries_across end second) passages
+  pub entries : entries_of_records end (map (λ captured. captured.number) records) log ≡ flat_map (entries_across end second) passages
   pub sent : map (λ x. x.0) (all_between passages) ≡ flat_map (packets_to_6 first) (map (λ passage. ipv4_fields passage.bytes) passages)
   pub numbers : All (λ x. IsComing coming (last_met end) x.1) (all_between passages)
   pub second_goes : All (λ x. GoesTo4 second (ipv6_bytes x.0)) (all_between passages)
-  pub far : packets_leaving (other_end end) (entries_of_all end (map (λ captured. captured.number) records) log)
+  pub far : packets_leaving (other_end end) (entries_of_records end (map (λ captured. captured.number) records) log)
       ≡ packets_across second (all_between passages)
-  pub near : packets_leaving end (entries_of_all end (map (λ captured. captured.number) records) log) ≡ []
+  pub near : packets_leaving end (entries_of_records end (map (λ captured. captured.number) records) log) ≡ []

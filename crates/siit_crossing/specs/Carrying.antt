@@ -10,7 +10,7 @@ use Rattle.siit_chain.specs.Log.{Entry}
 use Rattle.siit_chain.specs.declared.origin.End.{End}
 use Rattle.siit_chain.specs.declared.origin.End.TheVariants.{Left, Right}
 use Rattle.siit_run.specs.Runs.{Run, carry_record}
-use Rattle.siit_crossing.specs.Entries.{entries_from, entries_of, entries_of_all}
+use Rattle.siit_crossing.specs.Entries.{entries_of_capture, entries_of_record, entries_of_records}
 
 -- of both captures, that at an end
 abbrev pub capture_at : End → (left right : Records) → Records
@@ -53,13 +53,13 @@ pub record IsStillToCome (coming now : ℕ → ℕ → ℕ) : Type 0 where
   pub is : (device k : ℕ) → now device k ≡ coming device (gone device + k)
 
 -- All that a log has of a record is what carrying the record writes, with the numbers that were still to come then.
-pub record IsCarried {D : Type 0} (chain : Chain D) (coming : ℕ → ℕ → ℕ) (end : End) (captured : Captured) (log : List Entry) : Type 0 where
+pub record IsRecordCarried {D : Type 0} (chain : Chain D) (coming : ℕ → ℕ → ℕ) (end : End) (captured : Captured) (log : List Entry) : Type 0 where
   pub now : ℕ → ℕ → ℕ
   pub still : IsStillToCome coming now
-  pub entries : entries_of end captured.number log ≡ (carry_record chain end captured.number captured.found (fresh now)).log
+  pub entries : entries_of_record end captured.number log ≡ (carry_record chain end captured.number captured.found (fresh now)).log
 
 -- Every record of both captures was carried, and what is written of each capture stands in its order.
 pub record HasCarriedAll (left right : Records) (run : Run) : Type 0 where
   pub read : (end : End) → read_at end run ≡ length (list_of (capture_at end left right))
-  pub order : (end : End) → entries_from end run.trace.log
-      ≡ entries_of_all end (range_with_len 1 (length (list_of (capture_at end left right)))) run.trace.log
+  pub order : (end : End) → entries_of_capture end run.trace.log
+      ≡ entries_of_records end (range_with_len 1 (length (list_of (capture_at end left right)))) run.trace.log

@@ -27,24 +27,24 @@ comes_of test (drops origin device rule answered) = test origin
 comes_of test (finishes totals) = false
 
 -- the entries of all records of the capture at an end, as they stand in the log
-abbrev pub entries_from : End → List Entry → List Entry
-entries_from end log = filter (comes_of (is_from end)) log
+abbrev pub entries_of_capture : End → List Entry → List Entry
+entries_of_capture end log = filter (comes_of (is_from end)) log
 
 -- the entries of one record
-abbrev pub entries_of : End → (number : ℕ) → List Entry → List Entry
-entries_of end number log = filter (comes_of (is_of end number)) log
+abbrev pub entries_of_record : End → (number : ℕ) → List Entry → List Entry
+entries_of_record end number log = filter (comes_of (is_of end number)) log
 
 -- the entries of some records, record by record
-abbrev pub entries_of_all : End → (numbers : List ℕ) → List Entry → List Entry
-entries_of_all end numbers log = flat_map (λ number. entries_of end number log) numbers
+abbrev pub entries_of_records : End → (numbers : List ℕ) → List Entry → List Entry
+entries_of_records end numbers log = flat_map (λ number. entries_of_record end number log) numbers
 
 -- a drop names the record
 abbrev pub IsNamed : End → (number : ℕ) → List Entry → Type 0
-IsNamed end number log = 0 < drops_in (entries_of end number log)
+IsNamed end number log = 0 < drops_in (entries_of_record end number log)
 
 -- no drop does
 abbrev pub IsUnnamed : End → (number : ℕ) → List Entry → Type 0
-IsUnnamed end number log = drops_in (entries_of end number log) ≡ 0
+IsUnnamed end number log = drops_in (entries_of_record end number log) ≡ 0
 
 abbrev pub packet_leaving : End → Entry → List (List ℕ)
 packet_leaving end (begins at) = []

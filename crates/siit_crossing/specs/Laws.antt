@@ -10,7 +10,7 @@ use Rattle.siit_chain.specs.declared.origin.End.{End}
 use Rattle.siit_chain.specs.declared.origin.Origin.{Origin}
 use Rattle.siit_run.specs.Runs.{after, finished, run_of, started}
 use Rattle.siit_crossing.specs.Across.{NoneTurns, PacketCrosses, RecordsCrossBoth, settings_at, two_devices}
-use Rattle.siit_crossing.specs.Carrying.{Captured, HasCarriedAll, IsCaptured, IsCarried, IsStillToCome, capture_at, packet_entering}
+use Rattle.siit_crossing.specs.Carrying.{Captured, HasCarriedAll, IsCaptured, IsRecordCarried, IsStillToCome, capture_at, packet_entering}
 use Rattle.siit_crossing.specs.Entries.{IsUnnamed}
 
 -- ANY DEVICES
@@ -20,7 +20,7 @@ use Rattle.siit_crossing.specs.Entries.{IsUnnamed}
 abbrev pub EachRecordIsCarried : {D : Type 0} → Chain D → Type 0
 EachRecordIsCarried chain = (coming : ℕ → ℕ → ℕ) (left right : Records) → (run_of chain coming left right).course ≡ finished
     → (end : End) (captured : Captured) → IsCaptured (capture_at end left right) captured
-    → IsCarried chain coming end captured (run_of chain coming left right).trace.log
+    → IsRecordCarried chain coming end captured (run_of chain coming left right).trace.log
 
 -- A finished run has carried every record of both captures, each capture in its order.
 abbrev pub FinishedRunsCarryAll : {D : Type 0} → Chain D → Type 0
