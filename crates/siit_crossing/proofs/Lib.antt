@@ -4,3 +4,4 @@ pub mod Own
 pub mod Pairs
 pub mod Runs
 pub mod Sent
+pub mod Turns

@@ -24,7 +24,7 @@ use Rattle.siit_cutting.specs.Laws.{Numbered, given_to_4}
 use Rattle.siit_cutting.proofs.Lists.{map-flat_map}
 use Rattle.siit_engine.specs.Falling.{engine_falls}
 use Rattle.siit_engine.specs.Placed.{Placed}
-use Rattle.siit_crossing.specs.Across.{GoesTo4, GoesTo6, IsNotTurned, IsPassage, NoneTurns, PacketCrosses, Passage, RecordsCrossBoth, all_between, entries_across, last_met, packets_across, read_again, settings_at, two_devices}
+use Rattle.siit_crossing.specs.Across.{GoesTo4, GoesTo6, IsNotTurned, IsPassage, NoneTurns, PacketCrosses, Passage, RecordsCrossBoth, all_between, all_entering, entries_across, last_met, packets_across, read_again, settings_at, two_devices}
 use Rattle.siit_crossing.specs.Carrying.{Captured, IsRecordCarried, IsComing, IsStillToCome, entering_of, packet_entering}
 use Rattle.siit_crossing.specs.Entries.{IsUnnamed, entries_of_record, entries_of_records, packet_leaving, packets_leaving}
 use Rattle.siit_crossing.specs.Laws.{NoneTurnsOf, PacketsCrossBoth, UnnamedRecordsCrossBoth}
@@ -267,7 +267,7 @@ all-near end second (p ∷ passages) =
     ∙ (λ i. leaving-near end (origin_of end p.captured.number p.captured.found) (packets_across second p.between) i ++ all-near end second passages i)
 
 all-sent : (coming : ℕ → ℕ → ℕ) (end : End) (first second : Settings) (passages : List Passage) → All (IsPassage coming end first second) passages
-    → map (λ x. x.0) (all_between passages) ≡ flat_map (packets_to_6 first) (map (λ passage. ipv4_fields passage.bytes) passages)
+    → map (λ x. x.0) (all_between passages) ≡ flat_map (packets_to_6 first) (map ipv4_fields (all_entering passages))
 all-sent coming end first second [] each = refl
 all-sent coming end first second (p ∷ passages) each =
     let here : IsPassage coming end first second p = All-head (IsPassage coming end first second) p passages each in
@@ -281,6 +281,7 @@ joined coming end first second records log g = record {
   records_are = g.records_are;
   each = g.each;
   entries = g.entries;
+  first_goes = All-map (GoesTo6 first) (λ passage. passage.bytes) g.passages (λ k p within. (g.each k p within).crosses.first_goes);
   sent = all-sent coming end first second g.passages g.each;
   numbers = All-flat_map (λ (x : Numbered). IsComing coming (last_met end) x.1) (λ passage. passage.between) g.passages (λ k p within. (g.each k p within).crosses.numbers);
   second_goes = All-flat_map (λ (x : Numbered). GoesTo4 second (ipv6_bytes x.0)) (λ passage. passage.between) g.passages (λ k p within. (g.each k p within).crosses.second_goes);

@@ -113,18 +113,22 @@ abbrev pub entries_across : End → (second : Settings) → Passage → List Ent
 entries_across end second passage =
     map (leaves (origin_of end passage.captured.number passage.captured.found) (other_end end)) (packets_across second passage.between)
 
--- the packets between the devices, of all records
+-- the packets that enter, of all records, and the packets between the devices
+abbrev pub all_entering : List Passage → List (List ℕ)
+all_entering passages = map (λ passage. passage.bytes) passages
+
 abbrev pub all_between : List Passage → List Numbered
 all_between passages = flat_map (λ passage. passage.between) passages
 
 -- Records of one capture cross both devices, and these are all their entries in the log. The same is said of them
--- together: what goes between the devices, what leaves at the far end, and that nothing leaves at the near one.
+-- together: what enters, what goes between the devices, what leaves at the far end, and that nothing leaves at the near one.
 pub record RecordsCrossBoth (coming : ℕ → ℕ → ℕ) (end : End) (first second : Settings) (records : List Captured) (log : List Entry) : Type 0 where
   pub passages : List Passage
   pub records_are : map (λ passage. passage.captured) passages ≡ records
   pub each : All (IsPassage coming end first second) passages
   pub entries : entries_of_records end (map (λ captured. captured.number) records) log ≡ flat_map (entries_across end second) passages
-  pub sent : map (λ x. x.0) (all_between passages) ≡ flat_map (packets_to_6 first) (map (λ passage. ipv4_fields passage.bytes) passages)
+  pub first_goes : All (GoesTo6 first) (all_entering passages)
+  pub sent : map (λ x. x.0) (all_between passages) ≡ flat_map (packets_to_6 first) (map ipv4_fields (all_entering passages))
   pub numbers : All (λ x. IsComing coming (last_met end) x.1) (all_between passages)
   pub second_goes : All (λ x. GoesTo4 second (ipv6_bytes x.0)) (all_between passages)
   pub far : packets_leaving (other_end end) (entries_of_records end (map (λ captured. captured.number) records) log)

@@ -1,14 +1,19 @@
 -- Laws of what a finished run writes of its records.
-use Rattle.std.specs.Prelude.{◌≡◌, ℕ, List, Some}
+use Rattle.std.specs.Prelude.{◌≡◌, ℕ, ◌^◌, ◌<◌, List, Some, None}
 use Rattle.std.specs.List.{All}
+use Rattle.siit_model.specs.Ipv4.{ipv4_fields}
 use Rattle.siit_rules.specs.declared.rule.Family.TheVariants.{Four}
 use Rattle.siit_capture.specs.Captures.{Records}
+use Rattle.siit_eamt.specs.Faults.{table_fault}
+use Rattle.siit_map.specs.Mapping.{entries_of}
+use Rattle.siit_map.specs.Reversible.{IsReversible}
 use Rattle.siit_roles.specs.declared.settings.Settings.{Settings}
 use Rattle.siit_chain.specs.Carried.{Chain, carry, entering_at, fresh, other_end}
 use Rattle.siit_chain.specs.Log.{drops_in}
 use Rattle.siit_chain.specs.declared.origin.End.{End}
 use Rattle.siit_chain.specs.declared.origin.Origin.{Origin}
 use Rattle.siit_run.specs.Runs.{after, finished, run_of, started}
+use Rattle.siit_device.specs.Addresses.{to6}
 use Rattle.siit_crossing.specs.Across.{NoneTurns, PacketCrosses, RecordsCrossBoth, settings_at, two_devices}
 use Rattle.siit_crossing.specs.Carrying.{Captured, HasCarriedAll, IsCaptured, IsRecordCarried, IsStillToCome, capture_at, packet_entering}
 use Rattle.siit_crossing.specs.Entries.{IsUnnamed}
@@ -56,3 +61,10 @@ UnnamedRecordsCrossBoth = (settings_left settings_right : Settings) (coming : �
     → All (NoneTurnsOf (settings_at end settings_left settings_right) (settings_at (other_end end) settings_left settings_right)) records
     → RecordsCrossBoth coming end (settings_at end settings_left settings_right) (settings_at (other_end end) settings_left settings_right) records
     (run_of (two_devices settings_left settings_right) coming left right).trace.log
+
+-- Where both devices have one table, the second turns none of the packets that the first makes of a packet whose
+-- destination maps back.
+abbrev pub NoneTurnsInPairs : Type 0
+NoneTurnsInPairs = (first second : Settings) (bytes : List ℕ) → first.mapping ≡ second.mapping
+    → table_fault (entries_of second.mapping) ≡ None → IsReversible second.mapping (ipv4_fields bytes).destination
+    → to6 first (ipv4_fields bytes).destination < 2 ^ 128 → NoneTurns first second bytes

@@ -1,6 +1,6 @@
 //! The laws, each the contract of a function with no body.
 ghost use Rattle.siit_chain.specs.Laws.{OnChains};
-ghost use Rattle.siit_crossing.specs.Laws.{EachRecordIsCarried, FinishedRunsCarryAll, NumbersAreComing, PacketsCrossBoth, UnnamedRecordsCrossBoth};
+ghost use Rattle.siit_crossing.specs.Laws.{EachRecordIsCarried, FinishedRunsCarryAll, NoneTurnsInPairs, NumbersAreComing, PacketsCrossBoth, UnnamedRecordsCrossBoth};
 ghost use Rattle.siit_crossing.specs.Sent.{DevicesSendTo4, DevicesSendTo6, PairsAloneTurn};
 
 use siit_arrival4::rules_leave4;
@@ -56,3 +56,9 @@ pub fn records_cross_both()
     rules_leave4();
     rules_leave6();
 }
+
+/// Of two devices with one table, the second turns none of the packets that the first makes of a packet whose
+/// destination maps back. There is nothing to run.
+pub fn none_turns_in_pairs()
+    ensures { NoneTurnsInPairs }
+{}
