@@ -1,5 +1,5 @@
 //! The laws, each the contract of a function with no body.
-ghost use Rattle.siit_pair.specs.Laws.{AddressesComeBack, DisjointPairsComeBack};
+ghost use Rattle.siit_pair.specs.Laws.{AddressesComeBack, DatagramsComeAcross, DisjointPairsComeBack, FragmentsComeAcross};
 
 use siit_map::disjoint_tables_come_back;
 
@@ -11,3 +11,8 @@ pub fn addresses_come_back()
 {
     disjoint_tables_come_back();
 }
+
+/// A whole datagram is behind a pair what it was, changed in nothing but what is listed. There is nothing to run.
+pub fn datagrams_come_across()
+    ensures { DatagramsComeAcross }
+{}
