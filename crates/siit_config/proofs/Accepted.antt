@@ -22,7 +22,7 @@ use Rattle.siit_roles.specs.declared.settings.Settings.{Settings}
 use Rattle.siit_config.specs.Config.{chain_settings_of, config_of, devices_of, document_of}
 use Rattle.siit_config.specs.Devices.{device_of, entry_in, eam_of, hairpin_of, known_keys, local_of, mapping_entries_of, mapping_of, must, pool4_of, table_of}
 use Rattle.siit_config.specs.Keys.{all_of, array_of, flag_or, key, no_others, number_or, text, text_or, two_texts, value_of}
-use Rattle.siit_config.specs.Laws.{IsAcceptedDevice, IsAcceptedMapping, IsDisjointMapping, IsEntryInRange, symmetric_of}
+use Rattle.siit_config.specs.Laws.{HasAcceptedTable, IsAcceptedDevice, IsAcceptedTable, IsDisjointMapping, IsEntryInRange, IsMappingFor, symmetric_of}
 use Rattle.siit_config.proofs.Options.{bool_or, none_or_some, passed}
 use Rattle.siit_config.proofs.TextRanges.{prefix4_small, prefix6_small}
 use Rattle.siit_config.specs.Texts.{addresses4_of, either_name, embedding_of, family_of, mapping_entry_of, number_within, pool_of, role_of}
@@ -228,7 +228,7 @@ entries_in_range device before (Some entry ∷ told) entries small h =
 
 -- what a table's mapping is
 pub record IsTableMapping (symmetric : Bool) (mapped : Mapping) : Type 0 where
-  pub accepted : IsAcceptedMapping mapped
+  pub accepted : HasAcceptedTable mapped
   pub disjoint : symmetric ≡ true → IsDisjointMapping mapped
 
 disjoint_if : (symmetric disjoint : Bool) → (not symmetric || disjoint) ≡ true → symmetric ≡ true → disjoint ≡ true
@@ -244,7 +244,12 @@ table_mapped symmetric device prefix entries mapped good small h =
           let test = held (not_symmetric device) (not symmetric || is_disjoint entries prefix) rest.value rest.first in
           let same : table entries prefix ≡ mapped = ok_is (Ok (table entries prefix)) (table entries prefix) mapped refl rest.rest in
           rw (← same) (record {
-            accepted = record { accepted = none; embeds = good.embeds; entries_in_range = small; prefix_in_range = good.in_range };
+            accepted = record {
+              entries = entries;
+              prefix = prefix;
+              is = refl;
+              accepted = record { accepted = none; embeds = good.embeds; entries_in_range = small; prefix_in_range = good.in_range };
+            };
             disjoint = λ e. record {
               accepted = none;
               embeds = good.embeds;
@@ -255,14 +260,44 @@ table_mapped symmetric device prefix entries mapped good small h =
       | inr some ↦ let gone = rw some.1 at h in absurd (cc)
     ]
 
-pub mapping_is : (symmetric : Bool) (device : ℕ) (prefix : Prefix6) (local : Option (Prefix4 × Prefix6)) (entries : List (Option Eam)) (mapped : Mapping)
-    → IsPrefix prefix → All IsInRangeIf entries → mapping_of symmetric device prefix local entries ≡ Ok mapped → IsTableMapping symmetric mapped
-mapping_is symmetric device prefix (Some local) entries mapped good small h =
-    let same : customer local.0 local.1 prefix ≡ mapped = ok_is (Ok (customer local.0 local.1 prefix)) (customer local.0 local.1 prefix) mapped refl h in
-    rw (← same) (record { accepted = tt; disjoint = λ e. tt })
-mapping_is symmetric device prefix None entries mapped good small h =
+without_local : (symmetric : Bool) (device : ℕ) (prefix : Prefix6) (entries : List (Option Eam)) (mapped : Mapping)
+    → IsPrefix prefix → All IsInRangeIf entries → mapping_of symmetric device prefix None entries ≡ Ok mapped → IsTableMapping symmetric mapped
+without_local symmetric device prefix entries mapped good small h =
     let both = bound (mapping_entries_of device 0 entries) (table_of symmetric device prefix) mapped h in
     table_mapped symmetric device prefix both.value mapped good (entries_in_range device 0 entries both.value small both.first) both.rest
+
+-- what the mapping of a role is
+pub record IsRoleMapping (role : Role) (symmetric : Bool) (mapped : Mapping) : Type 0 where
+  pub accepted : IsMappingFor role mapped
+  pub disjoint : symmetric ≡ true → IsDisjointMapping mapped
+
+of_customer : (symmetric : Bool) (device : ℕ) (prefix : Prefix6) (local : Option (Prefix4 × Prefix6)) (entries : List (Option Eam)) (mapped : Mapping)
+    → IsPrefix prefix → All IsInRangeIf entries → mapping_of symmetric device prefix local entries ≡ Ok mapped → IsRoleMapping Customer symmetric mapped
+of_customer symmetric device prefix (Some local) entries mapped good small h =
+    let same : customer local.0 local.1 prefix ≡ mapped = ok_is (Ok (customer local.0 local.1 prefix)) (customer local.0 local.1 prefix) mapped refl h in
+    rw (← same) (record { accepted = tt; disjoint = λ e. tt })
+of_customer symmetric device prefix None entries mapped good small h =
+    record { accepted = tt; disjoint = (without_local symmetric device prefix entries mapped good small h).disjoint }
+
+-- a role that has no local prefixes
+no_local : (symmetric : Bool) (device : ℕ) (prefix : Prefix6) (local : Option (Prefix4 × Prefix6)) (entries : List (Option Eam)) (mapped : Mapping)
+    → IsPrefix prefix → All IsInRangeIf entries → None ≡ local → mapping_of symmetric device prefix local entries ≡ Ok mapped → IsTableMapping symmetric mapped
+no_local symmetric device prefix (Some local) entries mapped good small none h = absurd (cc)
+no_local symmetric device prefix None entries mapped good small none h = without_local symmetric device prefix entries mapped good small h
+
+pub mapping_is : (role : Role) (symmetric : Bool) (device : ℕ) (document : Members) (prefix : Prefix6) (local : Option (Prefix4 × Prefix6))
+    (entries : List (Option Eam)) (mapped : Mapping) → IsPrefix prefix → All IsInRangeIf entries → local_of device document role prefix ≡ Ok local
+    → mapping_of symmetric device prefix local entries ≡ Ok mapped → IsRoleMapping role symmetric mapped
+mapping_is Customer symmetric device document prefix local entries mapped good small is_local h = of_customer symmetric device prefix local entries mapped good small h
+mapping_is Plain symmetric device document prefix local entries mapped good small is_local h =
+    let is = no_local symmetric device prefix local entries mapped good small (ok_is (Ok None) None local refl is_local) h in
+    record { accepted = is.accepted; disjoint = is.disjoint }
+mapping_is Border symmetric device document prefix local entries mapped good small is_local h =
+    let is = no_local symmetric device prefix local entries mapped good small (ok_is (Ok None) None local refl is_local) h in
+    record { accepted = is.accepted; disjoint = is.disjoint }
+mapping_is Edge symmetric device document prefix local entries mapped good small is_local h =
+    let is = no_local symmetric device prefix local entries mapped good small (ok_is (Ok None) None local refl is_local) h in
+    record { accepted = is.accepted; disjoint = is.disjoint }
 
 -- ONE DEVICE
 
@@ -359,7 +394,7 @@ device_is symmetric device document settings h =
                                                                                                     let least6 = between device document 1500 1280 65535 (codes "mtu6") mtu6.0 (record { least = omega arith; most = omega arith }) mtu6.1 in
                                                                                                     let least_lowest = between device document 1280 1280 65535 (codes "lowest_mtu6") lowest.0 (record { least = omega arith; most = omega arith }) lowest.1 in
                                                                                                     let ordered = in_order mtu6.0 lowest.0 (held (mtu_order device) (not (nat_lt mtu6.0 lowest.0)) order.0 order.1) in
-                                                                                                    let kept = mapping_is symmetric device prefix.0 local.0 entries.0 mapped.0 (embeds device document prefix.0 prefix.1) (eam_in_range device document role.0 entries.0 entries.1) mapped.1 in
+                                                                                                    let kept = mapping_is role.0 symmetric device document prefix.0 local.0 entries.0 mapped.0 (embeds device document prefix.0 prefix.1) (eam_in_range device document role.0 entries.0 entries.1) local.1 mapped.1 in
                                                                                                     rw (← same) (record {
                                                                                                       good = record {
                                                                                                         limits = record {

@@ -9,6 +9,8 @@ use Rattle.siit_map.specs.Reversible.{IsDisjointTable, IsReversible}
 use Rattle.siit_rfc6052.specs.Embedding.{is_embedding_prefix}
 use Rattle.siit_roles.specs.Chain.{Chain}
 use Rattle.siit_roles.specs.Limits.{IsWithinLimits}
+use Rattle.siit_roles.specs.declared.role.Role.{Role}
+use Rattle.siit_roles.specs.declared.role.Role.TheVariants.{Plain, Border, Edge, Customer}
 use Rattle.siit_roles.specs.declared.settings.Settings.{Settings}
 use Rattle.siit_config.specs.Config.{config_of, document_of}
 use Rattle.siit_config.specs.Faults.{Fault, not_toml, ◌>>=◌, or_fault}
@@ -26,13 +28,22 @@ pub record IsAcceptedTable (entries : List Eam) (prefix : Prefix6) : Type 0 wher
   pub entries_in_range : All IsEntryInRange entries
   pub prefix_in_range : prefix.addr.0 < 2 ^ 128
 
-abbrev pub IsAcceptedMapping : Mapping → Type 0
-IsAcceptedMapping (table entries prefix) = IsAcceptedTable entries prefix
-IsAcceptedMapping (customer local4 local6 provider) = Unit {0}
+pub record HasAcceptedTable (mapping : Mapping) : Type 0 where
+  pub entries : List Eam
+  pub prefix : Prefix6
+  pub is : mapping ≡ table entries prefix
+  pub accepted : IsAcceptedTable entries prefix
+
+-- A customer's device has its local prefixes, and any other a table.
+abbrev pub IsMappingFor : Role → Mapping → Type 0
+IsMappingFor Plain mapping = HasAcceptedTable mapping
+IsMappingFor Border mapping = HasAcceptedTable mapping
+IsMappingFor Edge mapping = HasAcceptedTable mapping
+IsMappingFor Customer mapping = Unit {0}
 
 pub record IsAcceptedDevice (settings : Settings) : Type 0 where
   pub limits : IsWithinLimits settings
-  pub mapping : IsAcceptedMapping settings.mapping
+  pub mapping : IsMappingFor settings.role settings.mapping
 
 pub record IsAcceptedChain (chain : Chain) : Type 0 where
   pub some_device : 1 ≤ length chain.devices
