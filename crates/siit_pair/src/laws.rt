@@ -1,0 +1,18 @@
+//! The laws, each the contract of a function with no body.
+ghost use Rattle.siit_pair.specs.Laws.{AddressesComeBack, DatagramsComeAcross, DisjointPairsComeBack, FragmentsComeAcross};
+
+use siit_map::disjoint_tables_come_back;
+
+/// An IPv4 address that maps back comes back through two devices that map alike, and in a pair with a table of disjoint
+/// prefixes every address does that its devices map. There is nothing to run.
+pub fn addresses_come_back()
+    ensures reversible { AddressesComeBack }
+    ensures disjoint { DisjointPairsComeBack }
+{
+    disjoint_tables_come_back();
+}
+
+/// A whole datagram is behind a pair what it was, changed in nothing but what is listed. There is nothing to run.
+pub fn datagrams_come_across()
+    ensures { DatagramsComeAcross }
+{}

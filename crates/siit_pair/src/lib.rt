@@ -1,0 +1,11 @@
+//! The pair of SIIT-DC (RFC 7755, RFC 7756): a border relay, and behind it an edge relay with the same table. What such
+//! a pair is, and the laws that a datagram comes across it as itself.
+#![tactic(auto)]
+
+mod equal;
+mod laws;
+mod pair;
+mod transport;
+
+pub use laws::{addresses_come_back, datagrams_come_across};
+pub use pair::is_pair;
