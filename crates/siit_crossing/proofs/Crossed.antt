@@ -260,11 +260,11 @@ module _ {D : Type 0} (chain : Chain D) (falls : (device : D) (side : End) (byte
         let rest = all_second next packets (All-tail Good packet packets good) step.still (omega (arith, clean, here, there)) in
         record {
           numbers = number ∷ rest.numbers;
-          as_many = ap suc rest.as_many;
+          as_many = ap suc {x = length rest.numbers} rest.as_many;
           come = All-cons (IsComing coming (place_second to + 1)) number rest.numbers (still.gone (place_second to + 1) + 0, sym (still.is (place_second to + 1) 0)) rest.come;
           clean = All-cons (λ (x : List ℕ × ℕ). Clean x.0 x.1) (packet, number) (zip packets rest.numbers) step.clean rest.clean;
           log =
-              rest.log ∙ ap (λ l. l ++ map (leaves origin to) (flat_map (λ x. second x.0 x.1) (zip packets rest.numbers))) step.log
+              rest.log ∙ ap (λ l. l ++ map (leaves origin to) (flat_map (λ x. second x.0 x.1) (zip packets rest.numbers))) {x = next.log} step.log
               ∙ append_assoc t.log (map (leaves origin to) (second packet number)) (map (leaves origin to) (flat_map (λ x. second x.0 x.1) (zip packets rest.numbers)))
               ∙ ap (λ l. t.log ++ l) (sym (map-append (leaves origin to) (second packet number) (flat_map (λ x. second x.0 x.1) (zip packets rest.numbers))));
         }

@@ -1,12 +1,10 @@
 -- A packet for an address that maps back isn't turned.
-use Rattle.std.proofs.Common.{◌≡◌, ℕ, ◌^◌, ◌<◌, List, [], ◌∷◌, map, All, Bool, true, false, ◌&&◌, if◌then◌else◌, Option, Some, None, Ok, refl, ap, sym, subst, ◌∙◌}
-use Rattle.std.specs.List.{range_with_len}
+use Rattle.std.proofs.Common.{◌≡◌, ℕ, ◌^◌, ◌<◌, [], ◌∷◌, All, Bool, true, false, ◌&&◌, if◌then◌else◌, None, refl, ap, sym, subst, ◌∙◌}
 use Rattle.std.proofs.lemmas.List.Elements.{All-cons, All-map, All-nil, All-weaker}
 use Rattle.siit_checksum.proofs.Digits.{sixteen-read}
-use Rattle.siit_model.specs.Extensions.{Walked, walk_of}
 use Rattle.siit_model.specs.Fragments.{Fragment, fragment_packet6}
 use Rattle.siit_model.specs.Ipv4.{Ipv4Packet, ipv4_fields}
-use Rattle.siit_model.specs.Ipv6.{Ipv6Packet, ipv6_bytes}
+use Rattle.siit_model.specs.Ipv6.{Ipv6Packet}
 use Rattle.siit_fragments.specs.Pieces.{blocks_of, piece_of}
 use Rattle.siit_eamt.specs.Faults.{table_fault}
 use Rattle.siit_map.specs.Mapping.{entries_of, ipv6_for}
@@ -17,10 +15,10 @@ use Rattle.siit_hairpin.specs.declared.hairpin.TurnAnswer.TheVariants.{Not}
 use Rattle.siit_hairpin.proofs.TurnLaws.{translated_pass}
 use Rattle.siit_roles.specs.declared.settings.Settings.{Settings}
 use Rattle.siit_device.specs.Addresses.{address_of, to6}
-use Rattle.siit_device.specs.Arrival6.{is_pair, source_standing, turn_for, turns_back}
+use Rattle.siit_device.specs.Arrival6.{is_pair, source_standing, turns_back}
 use Rattle.siit_device.specs.Forward.{is_cut6, packets_to_6, pieces6, translated6, whole6}
 use Rattle.siit_model.specs.Fragments.{fragment4}
-use Rattle.siit_crossing.specs.Across.{IsNotTurned, NoneTurns, read_again}
+use Rattle.siit_crossing.specs.Across.{IsNotTurned, read_again}
 use Rattle.siit_crossing.specs.Laws.{NoneTurnsInPairs}
 
 -- all packets that a device makes of one go to the same address

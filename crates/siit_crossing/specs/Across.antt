@@ -121,7 +121,8 @@ abbrev pub all_between : List Passage → List Numbered
 all_between passages = flat_map (λ passage. passage.between) passages
 
 -- Records of one capture cross both devices, and these are all their entries in the log. The same is said of them
--- together: what enters, what goes between the devices, what leaves at the far end, and that nothing leaves at the near one.
+-- together: what enters, what goes between the devices, what leaves at the far end, and that nothing leaves at the near
+-- one.
 pub record RecordsCrossBoth (coming : ℕ → ℕ → ℕ) (end : End) (first second : Settings) (records : List Captured) (log : List Entry) : Type 0 where
   pub passages : List Passage
   pub records_are : map (λ passage. passage.captured) passages ≡ records
