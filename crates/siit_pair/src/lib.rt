@@ -7,5 +7,5 @@ mod laws;
 mod pair;
 mod transport;
 
-pub use laws::{addresses_come_back, datagrams_come_across};
+pub use laws::{addresses_come_back, datagrams_come_across, fragments_come_across};
 pub use pair::is_pair;
