@@ -6,6 +6,8 @@ mod equal;
 mod laws;
 mod pair;
 mod transport;
+mod worked;
 
 pub use laws::{addresses_come_back, datagrams_come_across};
 pub use pair::is_pair;
+pub use worked::worked_datagrams;
