@@ -2,12 +2,16 @@
 //! a pair is, and the laws that a datagram comes across it as itself.
 #![tactic(auto)]
 
+mod datagram;
 mod equal;
+mod judged;
 mod laws;
+mod message;
 mod pair;
 mod transport;
 mod worked;
 
+pub use datagram::same;
 pub use laws::{addresses_come_back, datagrams_come_across};
 pub use pair::is_pair;
 pub use worked::worked_datagrams;
