@@ -3,8 +3,8 @@ ghost use Rattle.siit_pair.specs.Same.{error_backward, error_forward, is_same_er
 ghost use Rattle.siit_roles.specs.Limits.{IsWithinLimits};
 ghost use Rattle.std.specs.Prelude.{◌≡◌, ◌≤◌, ◌+◌, length, true, false, Some, None};
 
+use crate::accepted::{accepted_error4, accepted_error6};
 use crate::equal::{is_same_moved, is_same_unsummed};
-use crate::judged::{judged4, judged6};
 use crate::transport::have_header;
 use siit_addr::{Addr6, Addresses6};
 use siit_checksum::sum_of;
@@ -93,7 +93,7 @@ fn go_forward(settings: &Settings, work: &mut PacketBuf) -> bool
     ensures short { result ≡ true → length work.new.bytes ≤ 1240 }
     ensures front { result ≡ true → 216 ≤ work.new.front }
 {
-    match judged4(settings, work.bytes()) {
+    match accepted_error4(settings, work.bytes()) {
         Some(error) => {
             translate_message(settings, work, 0, ANY, &error);
             true
@@ -113,7 +113,7 @@ fn go_backward(settings: &Settings, work: &mut PacketBuf) -> bool
     ensures made { result ≡ true → error_backward settings.now work.old.bytes ≡ Some (unsummed 2 work.new.bytes) }
     ensures header { result ≡ true → 8 ≤ length work.new.bytes }
 {
-    match judged6(settings, work.bytes()) {
+    match accepted_error6(settings, work.bytes()) {
         Some(error) => {
             work.grow_front(IPV6_HEADER);
             new_error(settings, work, IPV6_HEADER, ANY, &error);

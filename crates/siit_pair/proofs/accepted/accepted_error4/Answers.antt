@@ -1,6 +1,6 @@
 use Rattle.std.proofs.Common.{◌≡◌, ◌∙◌, sym}
 use Rattle.siit_pair.proofs.ErrorsMade.{forward-no-pointer, forward-no-row, forward-refused, forward-unmapped}
-use Rattle.siit_pair.proofs.judged.judged4.Goals as goal
+use Rattle.siit_pair.proofs.accepted.accepted_error4.Goals as goal
 
 pub returns-in_default-clause-none : goal.returns-in_default-clause-none
 returns-in_default-clause-none c = forward-no-row c.args.settings.now c.args.message.now c.in_default.field-0 (sym c.in_default.ensures)

@@ -1,6 +1,6 @@
 use Rattle.std.proofs.Common.{◌≡◌, ◌∙◌, sym}
 use Rattle.siit_pair.proofs.ErrorsMade.{backward-no-pointer, backward-no-row, backward-refused, backward-unmapped}
-use Rattle.siit_pair.proofs.judged.judged6.Goals as goal
+use Rattle.siit_pair.proofs.accepted.accepted_error6.Goals as goal
 
 pub returns-in_default-clause-none : goal.returns-in_default-clause-none
 returns-in_default-clause-none c = backward-no-row c.args.settings.now c.args.message.now c.in_default.field-0 (sym c.in_default.ensures)

@@ -22,7 +22,7 @@ use std::sync::ledger::{Blank, Ledger};
 
 /// What a device makes of an ICMPv4 error: its new type, and the new addresses of its quote. None where the device has
 /// no translation of it.
-pub(crate) fn judged4(settings: &Settings, message: &[u8]) -> Option<Error4>
+pub(crate) fn accepted_error4(settings: &Settings, message: &[u8]) -> Option<Error4>
     requires header { 8 ≤ length message.now }
     ensures error { IfSome result (λ error. HasError4 settings.now message.now error) }
     ensures none { IfNone result (error_forward settings.now message.now ≡ None) }
@@ -81,7 +81,7 @@ fn mapped6_by<L: Ledger>(settings: &Settings, old: Addresses4, blank: Blank) -> 
 
 /// What a device makes of an ICMPv6 error: its new type, and the new addresses of its quote. None where the device has
 /// no translation of it.
-pub(crate) fn judged6(settings: &Settings, message: &[u8]) -> Option<Error6>
+pub(crate) fn accepted_error6(settings: &Settings, message: &[u8]) -> Option<Error6>
     requires header { 8 ≤ length message.now }
     ensures error { IfSome result (λ error. HasError6 settings.now message.now error) }
     ensures none { IfNone result (error_backward settings.now message.now ≡ None) }
