@@ -236,7 +236,7 @@ pub record ErrorExamples : Type 0 where
 pub record ExtensionExamples : Type 0 where
   pub extended : carries 1 (exceeded (0x45000028 ∷ 0x00014000 ∷ 0x400668be ∷ [])) (exceeded (0x45000028 ∷ 0x00000000 ∷ 0x4006a8bf ∷ [])) ≡ true
   pub cut_off : carries 1 (exceeded (0x45000028 ∷ 0x00014000 ∷ 0x400668be ∷ []))
-      (take 156 (exceeded (0x45000028 ∷ 0x00000000 ∷ 0x4006a8bf ∷ []))) ≡ false
+      (take 136 (exceeded (0x45000028 ∷ 0x00000000 ∷ 0x4006a8bf ∷ []))) ≡ false
 
 -- BYTES
 

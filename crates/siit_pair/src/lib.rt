@@ -2,10 +2,19 @@
 //! a pair is, and the laws that a datagram comes across it as itself.
 #![tactic(auto)]
 
+mod accepted;
+mod datagram;
 mod equal;
 mod laws;
+mod message;
 mod pair;
 mod transport;
+mod worked;
 
-pub use laws::{addresses_come_back, datagrams_come_across};
+pub use datagram::same;
+pub use laws::{addresses_come_back, datagrams_come_across, fragments_come_across};
 pub use pair::is_pair;
+pub use worked::worked_datagrams;
+
+#[cfg(test)]
+mod tests;
