@@ -8,5 +8,6 @@ mod laws;
 pub use examples::{pair_examples, toy_examples};
 pub use laws::{
     devices_send_to_4, devices_send_to_6, each_record_is_carried, finished_runs_carry_all,
-    numbers_are_coming, packets_cross_both, pairs_alone_turn, records_cross_both,
+    none_turns_in_pairs, numbers_are_coming, packets_cross_both, pairs_alone_turn,
+    records_cross_both,
 };
