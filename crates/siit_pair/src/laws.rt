@@ -1,6 +1,9 @@
 //! The laws, each the contract of a function with no body.
 ghost use Rattle.siit_pair.specs.Laws.{AddressesComeBack, DatagramsComeAcross, DisjointPairsComeBack, FragmentsComeAcross};
 
+use siit_arrival4::rules_leave4;
+use siit_arrival6::rules_leave6;
+use siit_cutting::{cutting_commutes_to_4, cutting_commutes_to_6};
 use siit_map::disjoint_tables_come_back;
 
 /// An IPv4 address that maps back comes back through two devices that map alike, and in a pair with a table of disjoint
@@ -16,3 +19,14 @@ pub fn addresses_come_back()
 pub fn datagrams_come_across()
     ensures { DatagramsComeAcross }
 {}
+
+/// What comes out behind a pair for the fragments of a datagram joins to the datagram, changed in nothing but what is
+/// listed. There is nothing to run.
+pub fn fragments_come_across()
+    ensures { FragmentsComeAcross }
+{
+    rules_leave4();
+    rules_leave6();
+    cutting_commutes_to_6();
+    cutting_commutes_to_4();
+}
