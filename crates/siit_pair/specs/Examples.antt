@@ -12,7 +12,7 @@ use Rattle.siit_map.specs.Mapping.{Mapping, table}
 use Rattle.siit_roles.specs.declared.role.Role.{Role}
 use Rattle.siit_roles.specs.declared.role.Role.TheVariants.{Border, Edge}
 use Rattle.siit_roles.specs.declared.settings.Settings.{Settings}
-use Rattle.siit_pair.specs.Same.{error_behind, is_same_from, is_whole_packet}
+use Rattle.siit_pair.specs.Same.{error_behind, is_same_from, is_same_from_an_end, is_whole_packet}
 
 -- THE PAIR
 
@@ -162,6 +162,12 @@ pub record BareUdpExamples : Type 0 where
   pub ones : computes (datagram 12 0 (words (0x6162bc2d ∷ []))) (datagram 12 0xffff (words (0x6162bc2d ∷ []))) ≡ true
   pub zero : computes (datagram 12 0 (words (0x6162bc2d ∷ []))) (datagram 12 0 (words (0x6162bc2d ∷ []))) ≡ false
 
+-- The edge alone computes, so that such a datagram comes out from its end.
+pub record EndExamples : Type 0 where
+  pub right : is_same_from_an_end border (record edge { udp_compute = true }) (before 17 (datagram 12 0 abcd)) (after 17 (datagram 12 0x58c9 abcd)) ≡ true
+  pub left : is_same_from_an_end computing edge (before 17 (datagram 12 0 abcd)) (after 17 (datagram 12 0x58c9 abcd)) ≡ true
+  pub neither : is_same_from_an_end border edge (before 17 (datagram 12 0 abcd)) (after 17 (datagram 12 0x58c9 abcd)) ≡ false
+
 -- ICMP
 
 -- an ICMP message with a right checksum
@@ -196,6 +202,14 @@ unmapped = words (0x45000028 ∷ 0x00000000 ∷ 0x3f110000 ∷ dotted 8 8 8 8 �
 abbrev nested : List ℕ
 nested = words (0x45000028 ∷ 0x00000000 ∷ 0x3f010000 ∷ 0xc0000201 ∷ dotted 8 8 8 8 ∷ 0x03010000 ∷ 0 ∷ [])
 
+-- a fragment of an authentication header, which IPv6 has no Fragment header before
+abbrev authenticated : List ℕ
+authenticated = words (0x45000028 ∷ 0x00002000 ∷ 0x3f330000 ∷ 0xc0000201 ∷ dotted 8 8 8 8 ∷ 0x00351000 ∷ 0x00141111 ∷ [])
+
+-- a parameter problem that points at a byte of the quoted header
+abbrev problem : (place : ℕ) → (first_words : List ℕ) → List ℕ
+problem place first_words = message (12 ∷ 0 ∷ 0 ∷ 0 ∷ place ∷ 0 ∷ 0 ∷ 0 ∷ quoted first_words (dotted 8 8 8 8) 0x00351000)
+
 -- a time exceeded with the length octet 32: a quoted segment, zeros to 128 bytes, and an extension of 12
 abbrev exceeded : (first_words : List ℕ) → List ℕ
 exceeded first_words =
@@ -228,9 +242,13 @@ pub record ErrorExamples : Type 0 where
   pub mtu : carries 1 (error 4 1400 sent) (error 4 1399 come_back) ≡ false
   pub quote_kept : carries 1 (error 3 0 sent) (error 3 0 sent) ≡ false
   pub residue : carries 1 (error 3 0 sent) (with_field16 (error 3 0 come_back) 2 0xdba3) ≡ false
-  -- no row for the code; a quote that is refused; one whose address isn't mapped
+  -- it points at the protocol, and at the identification, which IPv6 hasn't
+  pub pointer : carries 1 (problem 9 sent) (problem 9 come_back) ≡ true
+  pub no_pointer : error_behind border edge (problem 4 sent) ≡ None
+  -- no row for the code; a quote that either device refuses; one whose address isn't mapped
   pub no_row : error_behind border edge (error 14 0 sent) ≡ None
   pub refused : error_behind border edge (unreachable 3 0 nested) ≡ None
+  pub refused_behind : error_behind border edge (unreachable 3 0 authenticated) ≡ None
   pub without_mapping : error_behind border edge (unreachable 3 0 unmapped) ≡ None
 
 pub record ExtensionExamples : Type 0 where

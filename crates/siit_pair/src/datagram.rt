@@ -19,8 +19,8 @@ use siit_views::{Ipv4Header, PacketBuf, read4};
 /// device writes 0; the spelling of a transport checksum, and that of UDP where there was none; and an ICMP error's
 /// type, code, bytes 4 to 7, quote and extension.
 ///
-/// Bytes that are no whole IPv4 packet are the same as nothing. Quotes are built in `work`, which may hold anything, and
-/// nothing is said of what it holds afterwards.
+/// Bytes that are no whole IPv4 packet are the same as nothing. Quotes are built in `work`, which may hold anything,
+/// and nothing is said of what it holds afterwards.
 pub fn same(settings: &ChainSettings, before: &[u8], after: &[u8], work: &mut PacketBuf) -> bool
     requires { All IsWithinLimits settings.now.devices }
     ensures { IsTrue result ↔ IsSame settings.now before.now after.now }

@@ -23,8 +23,8 @@ const CHECKSUM: usize = 2;
 /// The length of an IPv6 header in bytes (RFC 8200 section 3).
 const IPV6_HEADER: usize = 40;
 
-/// Addresses that a pseudo-header is made of where nobody looks at the checksum.
-const ANY: Addresses6 = Addresses6 {
+/// The unspecified address (RFC 4291 section 2.5.2) for both ends of a packet whose checksum nobody looks at.
+const UNSPECIFIED: Addresses6 = Addresses6 {
     src: Addr6(0),
     dst: Addr6(0),
 };
@@ -95,7 +95,7 @@ fn go_forward(settings: &Settings, work: &mut PacketBuf) -> bool
 {
     match accepted_error4(settings, work.bytes()) {
         Some(error) => {
-            translate_message(settings, work, 0, ANY, &error);
+            translate_message(settings, work, 0, UNSPECIFIED, &error);
             true
         }
         None => false,
@@ -116,7 +116,7 @@ fn go_backward(settings: &Settings, work: &mut PacketBuf) -> bool
     match accepted_error6(settings, work.bytes()) {
         Some(error) => {
             work.grow_front(IPV6_HEADER);
-            new_error(settings, work, IPV6_HEADER, ANY, &error);
+            new_error(settings, work, IPV6_HEADER, UNSPECIFIED, &error);
             work.shrink_front(IPV6_HEADER);
             true
         }
