@@ -5,6 +5,8 @@ ghost use Rattle.siit_pair.specs.Laws.{
   DisjointPairsComeBack,
   ExtensionsComeAcross,
   FragmentsComeAcross,
+  OneTableMapsAlike,
+  PacketsBehindAreRead,
   QuotesComeAcross,
 };
 
@@ -14,9 +16,10 @@ use siit_cutting::{cutting_commutes_to_4, cutting_commutes_to_6};
 use siit_map::disjoint_tables_come_back;
 use siit_quoted::{bodies_come_back, extensions_come_back};
 
-/// An IPv4 address that maps back comes back through two devices that map alike, and in a pair with a table of disjoint
-/// prefixes every address does that its devices map. There is nothing to run.
+/// Two devices with one table map alike; an IPv4 address that maps back comes back through two devices that map alike;
+/// and in a pair with a table of disjoint prefixes every address does that its devices map. There is nothing to run.
 pub fn addresses_come_back()
+    ensures alike { OneTableMapsAlike }
     ensures reversible { AddressesComeBack }
     ensures disjoint { DisjointPairsComeBack }
 {
@@ -37,6 +40,15 @@ pub fn fragments_come_across()
     rules_leave6();
     cutting_commutes_to_6();
     cutting_commutes_to_4();
+}
+
+/// Each packet that comes out behind a pair is read as it is written. There is nothing to run.
+pub fn packets_behind_are_read()
+    ensures { PacketsBehindAreRead }
+{
+    rules_leave4();
+    rules_leave6();
+    cutting_commutes_to_6();
 }
 
 /// The quote of an ICMP error comes out of a pair with its own addresses, cut and padded as the law says (RFC 4884).
