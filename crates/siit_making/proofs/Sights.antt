@@ -1,11 +1,12 @@
 -- What calls on files do, as it is seen of files with a capture in place of one of them.
-use Rattle.std.proofs.Common.{◌≡◌, ◌≢◌, ◌⊎◌, inl, inr, ℕ, zero, suc, ◌+◌, ◌-◌, ◌^◌, ◌<◌, ◌≤◌, ◌==◌, List, [], ◌∷◌, length, Bool, true, false, IsUtf8, Option, Some, None, IsTrue, bytes_eq, if◌then◌else◌, refl, ap, sym, subst, ◌∙◌, arith}
+use Rattle.std.proofs.Common.{◌≡◌, ◌≢◌, ◌⊎◌, inl, inr, ℕ, zero, suc, ◌+◌, ◌-◌, ◌^◌, ◌<◌, ◌≤◌, ◌==◌, List, [], ◌∷◌, length, Bool, true, false, IsUtf8, Option, Some, None, IsTrue, Result, Ok, Err, IfOk, OnOk, OnErr, bytes_eq, if◌then◌else◌, refl, ap, sym, subst, ◌∙◌, arith}
 use Rattle.std.proofs.lemmas.Slice.Eq.{bytes_eq-Decides}
 use Rattle.siit_word.specs.Causes.{Rose, last_count}
 use Rattle.siit_word.specs.Files.{Added, Copied, Copies, FilesMeaning, IsNoneOf, NotAdded, NotCopied, Touches, WriteFailed, Written, WrittenPart}
 use Rattle.siit_word.proofs.Touched.{touches_none}
 use Rattle.siit_making.specs.Through.{Sight, capture, contents_by, file, given_by, marked_sight, nothing, read_faults_by, reference, seen, sight_of_mark, told_by, write_faults_by}
-use Rattle.siit_making.proofs.Texts.{text_begins}
+use Rattle.siit_word.specs.declared.files.Failed.{Failed}
+use Rattle.siit_making.proofs.Texts.{isnt_name, sight_of_name, sight_of_other, text_begins}
 
 -- It is no file of one of these names.
 abbrev pub IsNoFileOf : Sight → (names : List (List ℕ)) → Type 0
@@ -101,7 +102,13 @@ module _ (number : ℕ) (name bytes : List ℕ) where
   see files = seen (marked_sight number name) files bytes
 
   -- what is done at a text that isn't that name
-  module _ {q : List ℕ} (text : IsUtf8 q) (apart : name ≢ q) {a b : FilesMeaning} where
+  module _ (q : List ℕ) (text : IsUtf8 q) (other : bytes_eq q name ≡ false) (a b : FilesMeaning) where
+    is : marked_sight number name q ≡ file q
+    is = sight_of_other number name q text other
+
+    apart : name ≢ q
+    apart = isnt_name name q other
+
     pub read_seen : Touches a b (q ∷ []) [] → Touches (see a) (see b) (q ∷ []) []
     read_seen only = touches_by only bytes (marked_sight number name) (λ p none. other_file number name p q text apart none.0)
         (λ p none. none_at_all (marked_sight number name p))
@@ -110,46 +117,50 @@ module _ (number : ℕ) (name bytes : List ℕ) where
     write_seen only = touches_by only bytes (marked_sight number name) (λ p none. none_at_all (marked_sight number name p))
         (λ p none. other_file number name p q text apart none.0)
 
-    module _ (is : marked_sight number name q ≡ file q) where
-      pub copied_seen : {at n : ℕ} {into : List ℕ} → Copied a b q at into n → Copied (see a) (see b) q at into n
-      copied_seen {at} {n} {into} h = record {
-        bytes = rw is (h.bytes);
-        small = rw is (h.small);
-        given = rw is (h.given);
-      }
+    pub copied_seen : (at : ℕ) (into : List ℕ) (result : Result ℕ Failed) → IfOk result (λ n. Copied a b q at into n)
+        → IfOk result (λ n. Copied (see a) (see b) q at into n)
+    copied_seen at into (Ok n) h = record { bytes = rw is (h.bytes); small = rw is (h.small); given = rw is (h.given) }
+    copied_seen at into (Err e) h = tt
 
-      pub not_copied_seen : NotCopied a b q → NotCopied (see a) (see b) q
-      not_copied_seen h = record { cause = rw is (h.cause); given = rw is (h.given) }
+    pub not_copied_seen : (result : Result ℕ Failed) → OnErr result (NotCopied a b q) → OnErr result (NotCopied (see a) (see b) q)
+    not_copied_seen (Ok n) h = tt
+    not_copied_seen (Err e) h = record { cause = rw is (h.cause); given = rw is (h.given) }
 
-      pub written_seen : {xs : List ℕ} → Written a b q xs → Written (see a) (see b) q xs
-      written_seen h = record { only = write_seen h.only; file = rw is (h.file) }
+    pub written_seen : (xs : List ℕ) (result : Result (Unit {0}) Failed) → OnOk result (Written a b q xs) → OnOk result (Written (see a) (see b) q xs)
+    written_seen xs (Ok u) h = record { only = write_seen h.only; file = rw is (h.file) }
+    written_seen xs (Err e) h = tt
 
-      pub written_part_seen : {xs : List ℕ} → WrittenPart a b q xs → WrittenPart (see a) (see b) q xs
-      written_part_seen h = record { only = write_seen h.only; file = rw is (h.file) }
+    pub written_part_seen : (xs : List ℕ) (result : Result (Unit {0}) Failed) → OnErr result (WrittenPart a b q xs)
+        → OnErr result (WrittenPart (see a) (see b) q xs)
+    written_part_seen xs (Ok u) h = tt
+    written_part_seen xs (Err e) h = record { only = write_seen h.only; file = rw is (h.file) }
 
-      pub write_failed_seen : WriteFailed a b q → WriteFailed (see a) (see b) q
-      write_failed_seen h = rw is h
+    pub write_failed_seen : (result : Result (Unit {0}) Failed) → OnErr result (WriteFailed a b q) → OnErr result (WriteFailed (see a) (see b) q)
+    write_failed_seen (Ok u) h = tt
+    write_failed_seen (Err e) h = rw is h
 
-      pub added_seen : {xs : List ℕ} {n : ℕ} → Added a b q xs n → Added (see a) (see b) q xs n
-      added_seen h = record { some = h.some; file = rw is (h.file); small = rw is (h.small) }
+    pub added_seen : (xs : List ℕ) (result : Result ℕ Failed) → IfOk result (λ n. Added a b q xs n) → IfOk result (λ n. Added (see a) (see b) q xs n)
+    added_seen xs (Ok n) h = record { some = h.some; file = rw is (h.file); small = rw is (h.small) }
+    added_seen xs (Err e) h = tt
 
-      pub not_added_seen : NotAdded a b q → NotAdded (see a) (see b) q
-      not_added_seen h = record { cause = rw is (h.cause); file = rw is (h.file) }
+    pub not_added_seen : (result : Result ℕ Failed) → OnErr result (NotAdded a b q) → OnErr result (NotAdded (see a) (see b) q)
+    not_added_seen (Ok n) h = tt
+    not_added_seen (Err e) h = record { cause = rw is (h.cause); file = rw is (h.file) }
 
   -- what is done at that name
-  module _ {q : List ℕ} (is : marked_sight number name q ≡ capture) {a : FilesMeaning} where
-    pub capture_copied : {at n : ℕ} {into : List ℕ} → length bytes < 2 ^ 64 → Copies (Some bytes) at n into → Copied (see a) (see a) q at into n
-    capture_copied small copied = record {
-      bytes = rw is (λ told. copied);
-      small = rw is (λ told. small);
-      given = rw is refl;
+  module _ (q : List ℕ) (text : IsUtf8 q) (same : bytes_eq q name ≡ true) (a : FilesMeaning) where
+    here : marked_sight number name q ≡ capture
+    here = sight_of_name number name q text same
+
+    pub capture_copied : (at n : ℕ) (into : List ℕ) → length bytes < 2 ^ 64 → Copies (Some bytes) at n into → Copied (see a) (see a) q at into n
+    capture_copied at n into small copied = record {
+      bytes = rw here (λ told. copied);
+      small = rw here (λ told. small);
+      given = rw here refl;
     }
 
     pub capture_refused : WriteFailed (see a) (see a) q
-    capture_refused = rw is (omega arith)
-
-    pub capture_not_written : {xs : List ℕ} → WrittenPart (see a) (see a) q xs
-    capture_not_written = record { only = touches_none; file = λ told. inl refl }
+    capture_refused = rw here (omega arith)
 
     pub capture_not_added : NotAdded (see a) (see a) q
     capture_not_added = record { cause = capture_refused; file = λ told. refl }

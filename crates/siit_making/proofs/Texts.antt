@@ -1,6 +1,7 @@
 -- A text begins with no number that is no byte.
-use Rattle.std.proofs.Common.{◌≡◌, ◌⊎◌, inl, inr, ℕ, ◌<◌, ◌≤◌, List, [], ◌∷◌, ◌++◌, get_or, true, false, IsUtf8, refl, ap, sym, ◌∙◌, arith, bytes_eq, ◌==◌}
+use Rattle.std.proofs.Common.{◌≡◌, ◌≢◌, ◌⊎◌, inl, inr, ℕ, ◌<◌, ◌≤◌, List, [], ◌∷◌, ◌++◌, get_or, true, false, IsUtf8, refl, ap, sym, ◌∙◌, arith, bytes_eq, ◌==◌}
 use Rattle.std.proofs.lemmas.Bool.Decides.{nat_tests}
+use Rattle.std.proofs.lemmas.Slice.Eq.{bytes_eq-Decides}
 use lib.Utf8.{encode, encodes, scalar, scalars, scalar_cases}
 use Rattle.siit_making.specs.Through.{capture, file, marked_sight, plain_sight}
 
@@ -19,7 +20,7 @@ first_byte (c ∷ cs) first rest is spelled =
     omega (arith, same, first_of_char c (encodes cs) one)
 
 pub text_begins : (first : ℕ) (rest : List ℕ) → IsUtf8 (first ∷ rest) → first < 256
-text_begins first rest text = first_byte text.0 first rest text.1 text.2
+text_begins first rest text = first_byte text.0 first rest text.1.0 text.1.1
 
 isnt : (first mark : ℕ) → first < mark → (first == mark) ≡ false
 isnt first mark below = grind (arith, nat_tests)
@@ -35,3 +36,8 @@ sight_of_other number name q text other = sight_of_text number name q text ∙ r
 
 pub sight_of_name : (number : ℕ) (name q : List ℕ) → IsUtf8 q → bytes_eq q name ≡ true → marked_sight number name q ≡ capture
 sight_of_name number name q text same = sight_of_text number name q text ∙ rw same refl
+
+pub isnt_name : (name q : List ℕ) → bytes_eq q name ≡ false → name ≢ q
+isnt_name name q other e =
+    let same : bytes_eq q name ≡ true = (bytes_eq-Decides q name).1 (sym e) in
+    cc

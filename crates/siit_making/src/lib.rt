@@ -4,6 +4,7 @@
 mod capture;
 mod examples;
 mod laws;
+mod through;
 mod writing;
 
 pub use capture::{GeneratedCapture, MOST_GENERATED};
