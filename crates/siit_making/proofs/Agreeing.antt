@@ -1,5 +1,5 @@
 -- What holds of a crossing holds of one whose files agree at all names that it speaks of.
-use Rattle.std.proofs.Common.{◌≡◌, ◌⊎◌, inl, inr, ℕ, suc, ◌≤◌, List, length, take, Bool, Option, Some, None, IsTrue, Result, Ok, Err, refl, ap, sym, subst, ◌∙◌, arith}
+use Rattle.std.proofs.Common.{◌≡◌, inl, inr, ℕ, suc, ◌≤◌, List, length, Bool, Option, Some, None, IsTrue, Result, Ok, Err, refl, ap, sym, subst, ◌∙◌}
 use Rattle.siit_word.specs.Causes.{Rose}
 use Rattle.siit_word.specs.Files.{FilesMeaning, held}
 use Rattle.siit_capture.specs.Captures.{Records, records_of}
@@ -10,11 +10,11 @@ use Rattle.siit_chain.specs.declared.origin.End.{End}
 use Rattle.siit_chain.specs.declared.origin.End.TheVariants.{Left, Right}
 use Rattle.siit_chain.specs.declared.origin.Output.{Output}
 use Rattle.siit_engine.specs.Placed.{Placed}
-use Rattle.siit_network.specs.Crossings.{Crossing, HasWritten, HoldsAfter, IsCrossed, IsPart, IsTold, KeepsNear, StopsNear, run_over, start_of}
+use Rattle.siit_network.specs.Crossings.{Crossing, HasWritten, HoldsAfter, IsPart, IsTold, KeepsNear, StopsNear, run_over, start_of}
 use Rattle.siit_network.specs.Holding.{HoldBetween, HoldParts, HoldTexts}
 use Rattle.siit_run.specs.Ahead.{IsReadAhead}
 use Rattle.siit_run.specs.Runs.{Course, Run, after, finished, run_of, started}
-use Rattle.siit_running.specs.Answers.{AreCounts, AreUnread, IsNearIn, rest_at}
+use Rattle.siit_running.specs.Answers.{AreCounts, IsNearIn, rest_at}
 use Rattle.siit_running.specs.Inputs as inputs
 use Rattle.siit_running.specs.Inputs.{IsWithin, records_named}
 use Rattle.siit_running.specs.declared.fault.RunFault.{RunFault}
@@ -35,7 +35,7 @@ AgreeIn a b (Some q) = Agree a b q
 
 -- ONE CAPTURE
 
-module _ {a b : FilesMeaning} where
+module _ (a b : FilesMeaning) where
   records_as : (n : Option (List ℕ)) → AgreeIn a b n → records_named a n ≡ records_named b n
   records_as None h = refl
   records_as (Some q) h = ap (λ f. records_of (held f)) h.contents
@@ -48,9 +48,9 @@ module _ {a b : FilesMeaning} where
   within_as None h within = tt
   within_as (Some q) h within = subst (λ (f : Option (List ℕ)). length (held f) ≤ 4294967296) h.contents within
 
-near_as : {a b c d : FilesMeaning} (n other : Option (List ℕ)) (rest : Records) → AgreeIn a b n → AgreeIn c d n → IsNearIn a c n other rest → IsNearIn b d n other rest
-near_as None other rest first last near = tt
-near_as {a} {b} {c} {d} (Some q) other rest first last near = λ apart.
+near_as : (a b c d : FilesMeaning) (n other : Option (List ℕ)) (rest : Records) → AgreeIn a b n → AgreeIn c d n → IsNearIn a c n other rest → IsNearIn b d n other rest
+near_as a b c d None other rest first last near = tt
+near_as a b c d (Some q) other rest first last near = λ apart.
     subst (λ (g : Option ℕ). IsReadAhead g (d.given q) rest) first.given
     (subst (λ (g : Option ℕ). IsReadAhead (a.given q) g rest) last.given (near apart))
 
@@ -70,16 +70,16 @@ module _ (chain : Chain Placed) (names : End → Option (List ℕ)) (outs : Outp
 
   same_start : start_of (crossing a c) ≡ start_of (crossing b d)
   same_start =
-      ap (λ left. started coming left (records_named a (names Right))) (records_as (names Left) (captures Left).0)
-      ∙ ap (started coming (records_named b (names Left))) (records_as (names Right) (captures Right).0)
+      ap (λ left. started coming left (records_named a (names Right))) (records_as a b (names Left) (captures Left).0)
+      ∙ ap (started coming (records_named b (names Left))) (records_as a b (names Right) (captures Right).0)
 
   same_run : run_over (crossing a c) ≡ run_over (crossing b d)
   same_run =
-      ap (λ left. run_of chain coming left (records_named a (names Right))) (records_as (names Left) (captures Left).0)
-      ∙ ap (run_of chain coming (records_named b (names Left))) (records_as (names Right) (captures Right).0)
+      ap (λ left. run_of chain coming left (records_named a (names Right))) (records_as a b (names Left) (captures Left).0)
+      ∙ ap (run_of chain coming (records_named b (names Left))) (records_as a b (names Right) (captures Right).0)
 
   told_same : IsTold (crossing b d) → IsTold (crossing a c)
-  told_same told end = told_as (names end) (captures end).0 (told end)
+  told_same told end = told_as a b (names end) (captures end).0 (told end)
 
   texts_as : (texts : Output → List ℕ) → HoldTexts outs c texts → HoldTexts outs d texts
   texts_as texts h = record {
@@ -123,7 +123,7 @@ module _ (chain : Chain Placed) (names : End → Option (List ℕ)) (outs : Outp
     written = subst (λ (r : Run). HoldBetween outs d (text_of (after chain h.turns r).trace.log) (text_of (after chain (suc h.turns) r).trace.log)) same_start
         (between_as _ _ h.written);
     near = λ end. subst (λ (r : Run). IsNearIn b d (names end) (names (other_end end)) (rest_at end (after chain h.turns r))) same_start
-        (near_as (names end) (names (other_end end)) _ (captures end).0 (captures end).1 (h.near end));
+        (near_as a b c d (names end) (names (other_end end)) _ (captures end).0 (captures end).1 (h.near end));
   }
 
   unread_at : (n : Option (List ℕ)) (q : List ℕ) → n ≡ Some q → AgreeIn a b n → AgreeIn c d n → c.given q ≡ a.given q → d.given q ≡ b.given q
@@ -159,7 +159,7 @@ module _ (chain : Chain Placed) (names : End → Option (List ℕ)) (outs : Outp
       record {
         written = written_as finished all.written;
         counted = subst (λ (r : Run). AreCounts counts r) same_run all.counted;
-        within = λ end. within_as (names end) (captures end).0 (all.within end);
+        within = λ end. within_as a b (names end) (captures end).0 (all.within end);
       }
   holds_as (Err (faults.ReadFault end)) faultless h = absurd (faultless (faults.ReadFault end) refl)
   holds_as (Err faults.WriteFault) faultless h = (failed_as h.0, λ told. stops_near (h.1 (told_same told)))

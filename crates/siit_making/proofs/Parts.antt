@@ -1,16 +1,14 @@
 -- The parts of a generated capture, one after another.
-use Rattle.std.proofs.Common.{◌≡◌, ◌⊎◌, inl, inr, ℕ, zero, suc, ◌+◌, ◌-◌, ◌*◌, ◌/◌, ◌%◌, ◌^◌, ◌<◌, ◌≤◌, List, [], ◌∷◌, ◌++◌, length, take, drop, min, Some, None, refl, ap, sym, subst, ◌∙◌, arith, length-drop, length-append, nat_lt, true, false, if◌then◌else◌}
+use Rattle.std.proofs.Common.{◌≡◌, ℕ, zero, suc, ◌+◌, ◌-◌, ◌*◌, ◌%◌, ◌<◌, ◌≤◌, List, [], ◌++◌, length, drop, None, refl, ap, sym, subst, ◌∙◌, arith, length-drop, length-append, nat_lt, true, false}
 use Rattle.std.proofs.lemmas.Bool.Decides.{nat_tests}
 use Rattle.std.specs.List.{All, flat_map}
-use Rattle.std.proofs.lemmas.List.{drop_at, drop-drop, drop-append-le, take-append-le}
+use Rattle.std.proofs.lemmas.List.{drop_at, drop-drop}
 use Rattle.std.proofs.lemmas.List.FromFn.{length-map-range_with_len}
 use Rattle.siit_capture.specs.Captures.{list_of, records_of, trouble_of}
-use Rattle.siit_capture.specs.Records.{Record}
 use Rattle.siit_capture.proofs.ReadAgain.{written_again}
 use Rattle.siit_capture.specs.Written.{IsWritable, written_head, written_record}
-use Rattle.siit_generator.specs.Generated.{data_length, data_of, datagram, drawn, generated, generated_from, generated_packet, generated_record, next_state}
+use Rattle.siit_generator.specs.Generated.{data_length, drawn, generated, generated_from, generated_packet, generated_record, next_state}
 use Rattle.siit_model.specs.Ipv4.{ipv4_bytes}
-use Rattle.siit_word.specs.Files.{Copies}
 use Rattle.siit_making.specs.Captures.{generated_capture}
 use Rattle.siit_making.specs.Parts.{AreParts, Parts, first_part, later, next_part, parts_at, stepped}
 

@@ -28,13 +28,12 @@ copied_part parts is at n into after within size copied =
     let capture : List ℕ = generated_capture parts.count parts.seed in
     let k : ℕ = at - parts.place in
     let whole = inside parts is in
-    let place : parts.place + k ≡ at = omega arith in
-    (
+    let place : parts.place + k ≡ at = omega arith in (
       copied
-      ∙ sym (front_of n k parts.hand (later parts) (omega (arith, size)))
-      ∙ ap (λ xs. take n (drop k xs)) (sym is.rest)
-      ∙ ap (take n) (drop-drop k parts.place capture)
-      ∙ ap (λ (m : ℕ). take n (drop m capture)) place,
+          ∙ sym (front_of n k parts.hand (later parts) (omega (arith, size)))
+          ∙ ap (λ xs. take n (drop k xs)) (sym is.rest)
+          ∙ ap (take n) (drop-drop k parts.place capture)
+          ∙ ap (λ (m : ℕ). take n (drop m capture)) place,
       omega (arith, size, whole, after),
       λ none some. ends parts at whole within (omega (arith, size, none, some)) after,
     )

@@ -1,12 +1,9 @@
 -- What calls on files do, as it is seen of files with a capture in place of one of them.
-use Rattle.std.proofs.Common.{◌≡◌, ◌≢◌, ◌⊎◌, inl, inr, ℕ, zero, suc, ◌+◌, ◌-◌, ◌^◌, ◌<◌, ◌≤◌, ◌==◌, List, [], ◌∷◌, length, Bool, true, false, IsUtf8, Option, Some, None, IsTrue, Result, Ok, Err, IfOk, OnOk, OnErr, bytes_eq, if◌then◌else◌, refl, ap, sym, subst, ◌∙◌, arith}
-use Rattle.std.proofs.lemmas.Slice.Eq.{bytes_eq-Decides}
-use Rattle.siit_word.specs.Causes.{Rose, last_count}
+use Rattle.std.proofs.Common.{◌≡◌, ◌≢◌, ℕ, zero, suc, ◌^◌, ◌<◌, ◌≤◌, ◌==◌, List, [], ◌∷◌, length, Bool, true, false, IsUtf8, Some, Result, Ok, Err, IfOk, OnOk, OnErr, bytes_eq, if◌then◌else◌, refl, arith}
 use Rattle.siit_word.specs.Files.{Added, Copied, Copies, FilesMeaning, IsNoneOf, NotAdded, NotCopied, Touches, WriteFailed, Written, WrittenPart}
-use Rattle.siit_word.proofs.Touched.{touches_none}
 use Rattle.siit_making.specs.Through.{Sight, capture, contents_by, file, given_by, marked_sight, nothing, read_faults_by, reference, seen, sight_of_mark, told_by, write_faults_by}
 use Rattle.siit_word.specs.declared.files.Failed.{Failed}
-use Rattle.siit_making.proofs.Texts.{isnt_name, sight_of_name, sight_of_other, text_begins}
+use Rattle.siit_making.proofs.FirstByte.{isnt_name, sight_of_name, sight_of_other, text_begins}
 
 -- It is no file of one of these names.
 abbrev pub IsNoFileOf : Sight → (names : List (List ℕ)) → Type 0

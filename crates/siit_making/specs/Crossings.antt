@@ -1,5 +1,6 @@
 -- A generated capture that is carried through a network, from the left, with nothing at the right.
-use Rattle.std.specs.Prelude.{ℕ, List, Option, Some, None}
+use Rattle.std.specs.Prelude.{◌≡◌, ℕ, List, Option, Some, None}
+use Rattle.std.specs.Str.{IsUtf8}
 use Rattle.siit_chain.specs.Carried.{Chain}
 use Rattle.siit_chain.specs.declared.origin.End.{End}
 use Rattle.siit_chain.specs.declared.origin.End.TheVariants as ends
@@ -29,6 +30,10 @@ generated_crossing chain count seed name outputs before now coming_before coming
   coming_before = coming_before;
   coming_now = coming_now;
 }
+
+-- Each output has a text as its name.
+abbrev pub AreTexts : (names : Output → Option (List ℕ)) → Type 0
+AreTexts names = (o : Output) (q : List ℕ) → names o ≡ Some q → IsUtf8 q
 
 -- The fault is none of a capture.
 abbrev pub IsNoCaptureFault : RunFault → Type 0

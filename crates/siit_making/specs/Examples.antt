@@ -1,11 +1,11 @@
 -- Generated captures, computed by an independent script, and what is seen of files with one of them.
-use Rattle.std.specs.Prelude.{◌≡◌, ℕ, ◌+◌, List, [], ◌∷◌, ◌++◌, length, drop, true, false, Some, None}
+use Rattle.std.specs.Prelude.{◌≡◌, ℕ, List, [], ◌∷◌, ◌++◌, length, drop, true, false, Some, None}
 use Rattle.siit_capture.specs.Captures.{ended, one_more, records_of}
 use Rattle.siit_capture.specs.Written.{written_head}
 use Rattle.siit_generator.specs.Generated.{generated_record, drawn, next_state}
 use Rattle.siit_word.specs.Files.{FilesMeaning}
 use Rattle.siit_making.specs.Captures.{generated_capture}
-use Rattle.siit_making.specs.Parts.{Parts, first_part, later, next_part, stepped}
+use Rattle.siit_making.specs.Parts.{first_part, later, next_part, stepped}
 use Rattle.siit_making.specs.Through.{hidden_mark, other_mark, reference_mark, with_capture, with_marks}
 
 -- the whole file of one datagram of three bytes

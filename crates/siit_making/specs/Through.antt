@@ -68,18 +68,20 @@ with_capture files name bytes = seen (plain_sight name) files bytes
 -- MARKS
 
 -- A list that begins with a number that is no byte is no text, and so no name that a call is given. Such marks tell who
--- handed out a reference to files, and gets it back, what isn't seen otherwise: what the hidden file holds, and whether
--- it is this reference still.
+-- hands out a reference to files, and gets it back, what isn't seen otherwise: what the hidden file holds, and whether it
+-- is this reference still.
 abbrev pub no_byte : ℕ
 no_byte = 256
 
--- what else has no name that is a text, the file that the capture hides, and a reference
-abbrev pub other_mark : (rest : List ℕ) → List ℕ
-other_mark rest = no_byte ∷ 0 ∷ rest
-
+-- the mark of the hidden file
 abbrev pub hidden_mark : List ℕ
 hidden_mark = no_byte ∷ 1 ∷ []
 
+-- that of a file whose name itself begins so
+abbrev pub other_mark : (rest : List ℕ) → List ℕ
+other_mark rest = no_byte ∷ 0 ∷ rest
+
+-- that of the reference of this number, by which the files are reached
 abbrev pub reference_mark : (number : ℕ) (name : List ℕ) → List ℕ
 reference_mark number name = no_byte ∷ 2 ∷ number ∷ name
 

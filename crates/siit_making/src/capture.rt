@@ -55,7 +55,8 @@ impl GeneratedCapture {
 
     /// Begins again with the head.
     pub(crate) fn start_over(&mut self)
-        ensures { self.new ≡ first_part self.old.count self.old.seed }
+        ensures first { self.new ≡ first_part self.old.count self.old.seed }
+        ensures few { self.old.count ≤ 100000 }
     {
         self.place = 0;
         self.hand.load(&capture_head());

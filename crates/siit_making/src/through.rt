@@ -10,7 +10,7 @@ use siit_word::{Failed, Files};
 pub(crate) struct GeneratedFiles<'a, F> {
     pub files: &'a mut F,
     pub name: &'a str,
-    pub capture: GeneratedCapture,
+    pub capture: &'a mut GeneratedCapture,
 }
 
 impl<F: Files> Files for GeneratedFiles<'_, F> {
@@ -19,7 +19,7 @@ impl<F: Files> Files for GeneratedFiles<'_, F> {
     ghost use Rattle.siit_model.specs.Bytes.{AreBytes};
     ghost use Rattle.siit_word.specs.Files.{Added, Copied, NotAdded, NotCopied, Touches, WriteFailed, Written, WrittenPart};
 
-    ghost meaning = { λ s. with_marks s.files.ghost_name (F.meaning s.files.now) s.name.now (generated_capture s.capture.count s.capture.seed) };
+    ghost meaning = { λ s. with_marks s.files.ghost_name (F.meaning s.files.now) s.name.now (generated_capture s.capture.now.count s.capture.now.seed) };
 
     /// Bytes of the capture are made as they are asked for; this never fails. Other files are read as they are.
     fn read(&mut self, name: &str, at: u64, into: &mut [u8]) -> Result<usize, Failed> {

@@ -1,4 +1,4 @@
-use Rattle.std.proofs.Common.{◌≡◌, ◌+◌, ◌<◌, ◌≤◌, ◌-◌, true, sym, ◌∙◌, arith}
+use Rattle.std.proofs.Common.{sym, ◌∙◌, arith}
 use Rattle.siit_making.proofs.Parts.{has_stepped}
 use Rattle.siit_making.proofs.capture.GeneratedCapture.go_to.Goals as goal
 

@@ -1,5 +1,5 @@
 -- A text begins with no number that is no byte.
-use Rattle.std.proofs.Common.{◌≡◌, ◌≢◌, ◌⊎◌, inl, inr, ℕ, ◌<◌, ◌≤◌, List, [], ◌∷◌, ◌++◌, get_or, true, false, IsUtf8, refl, ap, sym, ◌∙◌, arith, bytes_eq, ◌==◌}
+use Rattle.std.proofs.Common.{◌≡◌, ◌≢◌, inl, inr, ℕ, ◌<◌, List, [], ◌∷◌, ◌++◌, get_or, true, false, IsUtf8, refl, ap, sym, ◌∙◌, arith, bytes_eq, ◌==◌}
 use Rattle.std.proofs.lemmas.Bool.Decides.{nat_tests}
 use Rattle.std.proofs.lemmas.Slice.Eq.{bytes_eq-Decides}
 use lib.Utf8.{encode, encodes, scalar, scalars, scalar_cases}
