@@ -1,8 +1,7 @@
-pub mod Records
-pub mod Translated
-pub mod Packets
-pub mod Carried
-pub mod Outputs
+pub mod OwnFiles
+pub mod CarriedAnswers
+pub mod CarryRuns
+pub mod WellKnownSettings
 pub mod WkpRuns
 pub mod Completed
 pub mod WordCounts
