@@ -17,8 +17,8 @@ use Rattle.siit_top.specs.Runs.{AllTold, Run}
 use Rattle.siit_top.specs.Words.{Command, RunFiles, carry_run}
 use Rattle.siit_top.specs.declared.status.Status.TheVariants as status
 
--- The outputs are exactly the texts of what the run wrote, record by record, and by that each datagram which was sent as
--- records of one capture was delivered.
+-- The outputs are exactly the texts of what the run wrote, record by record, and by that each datagram which was sent
+-- as records of one capture was delivered.
 pub record KeepsDatagrams (c : Crossing) (chain : Chain) (pair : IsPair chain) : Type 0 where
   pub holds : HoldTexts c.outputs c.now (text_of (run_over c).trace.log)
   pub delivers : Delivers pair.border pair.edge (records_named c.before (c.captures Left)) (records_named c.before (c.captures Right)) (run_over c).trace.log
