@@ -29,9 +29,15 @@ use Rattle.siit_device.specs.Rules4.{first_rule4, quote_rows4, upper_rows4}
 use Rattle.siit_device.specs.Rules6.{first_rule6, quote_rows6, upper_rows6}
 use Rattle.siit_cutting.specs.Laws.{HasAddresses6, Numbered, first_id, given_to_4}
 use Rattle.siit_pair.specs.Across.{across, between}
+use Rattle.siit_pair.specs.Pairs.{HaveOneTable, is_table}
 use Rattle.siit_pair.specs.Same.{is_same_from}
 
 -- ADDRESSES
+
+-- Two devices with one table map alike.
+abbrev pub OneTableMapsAlike : Type 0
+OneTableMapsAlike = (border edge : Settings) → HaveOneTable border edge → is_table border.mapping ≡ true → is_table edge.mapping ≡ true
+    → border.mapping ≡ edge.mapping
 
 -- An IPv4 address that maps back comes back, whichever of two devices that map alike stands first.
 abbrev pub AddressesComeBack : Type 0

@@ -5,6 +5,7 @@ ghost use Rattle.siit_pair.specs.Laws.{
   DisjointPairsComeBack,
   ExtensionsComeAcross,
   FragmentsComeAcross,
+  OneTableMapsAlike,
   QuotesComeAcross,
 };
 
@@ -14,9 +15,10 @@ use siit_cutting::{cutting_commutes_to_4, cutting_commutes_to_6};
 use siit_map::disjoint_tables_come_back;
 use siit_quoted::{bodies_come_back, extensions_come_back};
 
-/// An IPv4 address that maps back comes back through two devices that map alike, and in a pair with a table of disjoint
-/// prefixes every address does that its devices map. There is nothing to run.
+/// Two devices with one table map alike; an IPv4 address that maps back comes back through two devices that map alike;
+/// and in a pair with a table of disjoint prefixes every address does that its devices map. There is nothing to run.
 pub fn addresses_come_back()
+    ensures alike { OneTableMapsAlike }
     ensures reversible { AddressesComeBack }
     ensures disjoint { DisjointPairsComeBack }
 {
