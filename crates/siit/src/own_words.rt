@@ -6,9 +6,13 @@ ghost use Rattle.std.specs.String.{string_bytes};
 const HELP: &str = "\
 siit translates captures between IPv4 and IPv6 without state (RFC 7915).
 
-  siit wkp IN OUT                 writes the TCP and UDP packets of IN, a
-                                  capture of raw IPv4 packets, to OUT, as
-                                  IPv6 packets under 64:ff9b::/96
+  siit run CONFIG LEFT RIGHT OUTLEFT OUTRIGHT REPORT
+                                  carries the captures LEFT and RIGHT through
+                                  the translators of CONFIG; `-` is a capture
+                                  without records
+  siit wkp IN OUT                 carries the capture IN through a translator
+                                  under 64:ff9b::/96, and writes to OUT what
+                                  leaves it at the other side
   siit map CONFIG DEVICE ADDRESS  prints what the device of this number, the
                                   first being 1, maps the address to, which
                                   is of either family
