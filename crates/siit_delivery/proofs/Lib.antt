@@ -1,3 +1,4 @@
 pub mod Ranges
 pub mod Sendings
 pub mod Delivered
+pub mod Joining

@@ -2,6 +2,8 @@
 //! Nothing runs: the law is the contract of a function with no body of its own.
 #![tactic(auto)]
 
+mod examples;
 mod laws;
 
+pub use examples::cover_examples;
 pub use laws::pairs_deliver;
