@@ -30,13 +30,13 @@ use Rattle.siit_top.specs.declared.status.Status.TheVariants.{Ok, BadWords, BadC
 use Rattle.siit_top.proofs.Dns64Reads.{first_long_held}
 
 -- What was read is what the file holds.
-held_is : {file : Option (List ℕ)} {bytes : List ℕ} → file ≡ Some bytes → held file ≡ bytes
+pub held_is : {file : Option (List ℕ)} {bytes : List ℕ} → file ≡ Some bytes → held file ≡ bytes
 held_is is = ap held is
 
 -- WHERE CAPTURES WERE CARRIED
 
 -- What both captures hold is told.
-told_names : (files : FilesMeaning) (left right : Option (List ℕ)) → AllTold (some_name left ++ some_name right) files → AreTold files (captures_named left right)
+pub told_names : (files : FilesMeaning) (left right : Option (List ℕ)) → AllTold (some_name left ++ some_name right) files → AreTold files (captures_named left right)
 told_names files None None told ends.Left = tt
 told_names files None None told ends.Right = tt
 told_names files None (Some right) told ends.Left = tt

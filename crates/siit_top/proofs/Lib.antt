@@ -9,3 +9,4 @@ pub mod MapRuns
 pub mod DiscoverRuns
 pub mod Dns64Reads
 pub mod Dns64Runs
+pub mod PairRuns

@@ -17,3 +17,4 @@ pub mod DiscoverExamples
 pub mod Dns64Run
 pub mod Dns64Seen
 pub mod Promises
+pub mod PairRun

@@ -1,12 +1,14 @@
 //! The top call: the words, and the command that they are.
 ghost use Rattle.std.specs.Prelude.{◌≡◌, ◌≢◌, ◌↔◌, map, None, IfSome};
 ghost use Rattle.std.specs.String.{string_bytes};
+ghost use Rattle.siit_top.specs.PairRun.{PairPromise};
 ghost use Rattle.siit_top.specs.Promises.{IsComplete, Promise};
 ghost use Rattle.siit_top.specs.Runs.{run_between};
 ghost use Rattle.siit_top.specs.Words.{command_of};
 
 use crate::commands::{perform, read_command};
 use crate::status::Status;
+use siit_delivery::pairs_deliver;
 use siit_word::{Files, Idents};
 use std::alloc::Global;
 
@@ -44,10 +46,15 @@ pub fn siit_main<F: Files, I: Idents>(
     ensures complete { IfSome (command_of (map string_bytes words.now)) (λ command. IsComplete command
         (run_between (F.meaning files.old) (F.meaning files.new) (I.coming idents.old) (I.coming idents.new)
         out.old.items out.new.items result)) }
+    ensures pair { IfSome (command_of (map string_bytes words.now)) (λ command. PairPromise command
+        (run_between (F.meaning files.old) (F.meaning files.new) (I.coming idents.old) (I.coming idents.new)
+        out.old.items out.new.items result)) }
     ensures untouched { result ≡ Status.BadWords → files.new ≡ files.old }
     ensures untaken { result ≡ Status.BadWords → idents.new ≡ idents.old }
     ensures silent { result ≢ Status.Ok → out.new.items ≡ out.old.items }
 {
+    // The law of what pairs deliver, for the clause `pair`. There is nothing to run.
+    pairs_deliver();
     match read_command(words) {
         Some(command) => perform(alloc, command, files, idents, out),
         None => Status::BadWords,
