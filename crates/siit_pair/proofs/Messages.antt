@@ -209,7 +209,7 @@ module _ (first second : Settings) (d : Ipv4Packet) (id : ℕ) (icmp : d.protoco
   pseudo = pseudo6 (to6 first d.source) (to6 first d.destination) 58 (8 + length body.bytes)
 
   -- the checksum between both devices
-  abbrev checksum6 : ℕ
+  abbrev pub checksum6 : ℕ
   checksum6 = moved (field16 d.payload 2) ((0 + residue (take 2 d.payload ++ 0 ∷ 0 ∷ drop 4 d.payload)) % 65535)
       ((pseudo + residue (n.kind ∷ n.code ∷ 0 ∷ 0 ∷ rest ++ body.bytes)) % 65535)
 
@@ -249,7 +249,7 @@ module _ (first second : Settings) (d : Ipv4Packet) (id : ℕ) (icmp : d.protoco
     abbrev pseudo_old : ℕ
     pseudo_old = pseudo6 common6.source common6.destination 58 (length middle)
 
-    abbrev checksum4 : ℕ
+    abbrev pub checksum4 : ℕ
     checksum4 = moved (field16 middle 2) ((pseudo_old + residue (take 2 middle ++ 0 ∷ 0 ∷ drop 4 middle)) % 65535)
         ((0 + residue (m.kind ∷ m.code ∷ 0 ∷ 0 ∷ rest4 ++ body4.bytes)) % 65535)
 

@@ -52,7 +52,7 @@ room-most n = omega arith
 padding-most : (len : ℕ) → len ≤ 1232 → len + padding 8 len ≤ 1239
 padding-most len small = omega arith
 
-carried-some : (may few : Bool) (one two : List ℕ) → Some one ≡ (if may && few then Some two else None) → (one ≡ two) × (few ≡ true)
+pub carried-some : (may few : Bool) (one two : List ℕ) → Some one ≡ (if may && few then Some two else None) → (one ≡ two) × (few ≡ true)
 carried-some true true one two is = (cc, refl)
 carried-some true false one two is = cc
 carried-some false few one two is = cc

@@ -1,6 +1,6 @@
 -- The pair of SIIT-DC: a border relay (RFC 7755) and, behind it, an edge relay (RFC 7756) with the border's table.
-use Rattle.std.specs.Prelude.{◌≡◌, [], ◌∷◌}
-use Rattle.siit_map.specs.Mapping.{entries_of, prefix_in}
+use Rattle.std.specs.Prelude.{◌≡◌, [], ◌∷◌, Bool, true, false}
+use Rattle.siit_map.specs.Mapping.{Mapping, customer, entries_of, prefix_in, table}
 use Rattle.siit_rules.specs.declared.rule.Family.TheVariants.{Four}
 use Rattle.siit_roles.specs.Chain.{Chain}
 use Rattle.siit_roles.specs.declared.role.Role.TheVariants.{Border, Edge}
@@ -20,3 +20,8 @@ pub record IsPair (chain : Chain) : Type 0 where
   pub border_role : border.role ≡ Border
   pub edge_role : edge.role ≡ Edge
   pub table : HaveOneTable border edge
+
+-- the mapping by a table, which every border and edge of a configuration has
+abbrev pub is_table : Mapping → Bool
+is_table (table entries prefix) = true
+is_table (customer local4 local6 provider) = false
