@@ -1,8 +1,8 @@
 -- Bytes that are compared part by part.
-use Rattle.std.proofs.Common.{◌≡◌, ℕ, ◌+◌, ◌-◌, ◌≤◌, List, [], ◌∷◌, ◌++◌, length, take, drop, Bool, true, false, ◌&&◌, nat_eq, refl, ap, ◌∙◌, sym, suc, arith, append_assoc}
+use Rattle.std.proofs.Common.{◌≡◌, ℕ, ◌+◌, ◌-◌, ◌≤◌, List, [], ◌∷◌, ◌++◌, length, take, drop, Bool, true, false, ◌&&◌, nat_eq, refl, ap, ◌∙◌, sym, arith, append_assoc}
 use Rattle.std.specs.Cmp.Lexicographic.{pointwise}
 use Rattle.std.proofs.lemmas.List.{length-take-le, take_rest}
-use Rattle.siit_model.specs.Bytes.{bytes16, with_field16}
+use Rattle.siit_model.specs.Bytes.{bytes16}
 use Rattle.siit_pair.specs.Same.{is_same_unsummed, unsummed}
 
 and-assoc : (a b c : Bool) → (a && (b && c)) ≡ ((a && b) && c)

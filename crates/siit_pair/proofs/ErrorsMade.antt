@@ -1,6 +1,6 @@
 -- What a device makes of an ICMP error, and where it makes nothing.
-use Rattle.std.proofs.Common.{◌≡◌, ℕ, ◌+◌, ◌≤◌, List, [], ◌∷◌, ◌++◌, length, take, drop, Bool, true, false, ◌&&◌, Option, Some, None, Ok, Err, refl, ap, ◌∙◌, sym, arith}
-use Rattle.std.specs.Prelude.{is_none, is_ok, is_some, IsSome}
+use Rattle.std.proofs.Common.{◌≡◌, ℕ, List, Bool, true, false, ◌&&◌, Some, None, Ok, Err, refl, ap, ◌∙◌, sym}
+use Rattle.std.specs.Prelude.{is_none, is_ok, IsSome}
 use Rattle.siit_model.specs.Bytes.{field8, field32}
 use Rattle.siit_model.specs.Ipv4.{ipv4_fields}
 use Rattle.siit_model.specs.Ipv6.{ipv6_fields}

@@ -1,5 +1,5 @@
 -- The payload of a packet that is read.
-use Rattle.std.proofs.Common.{◌≡◌, ℕ, ◌-◌, ◌≤◌, List, length, take, drop, min, ap, arith}
+use Rattle.std.proofs.Common.{◌≡◌, ℕ, ◌-◌, ◌≤◌, List, length, drop, min, ap, arith}
 use Rattle.std.proofs.lemmas.List.{length-take}
 use Rattle.siit_model.specs.Ipv4.{header_length_in, ipv4_fields, total_length_in}
 

@@ -1,10 +1,10 @@
 -- Whether an error that both devices translate is the one that came out.
-use Rattle.std.proofs.Common.{◌≡◌, ℕ, ◌≤◌, List, length, Bool, true, false, ◌&&◌, ◌==◌, Option, Some, None, ap, ◌∙◌, sym, arith}
+use Rattle.std.proofs.Common.{◌≡◌, ℕ, ◌≤◌, List, length, true, ◌&&◌, ◌==◌, Option, Some, ap, ◌∙◌, sym, arith}
 use Rattle.std.specs.Prelude.{option_and_then}
 use Rattle.std.proofs.lemmas.Bool.Decides.{nat_tests}
 use Rattle.siit_model.specs.Checksum.{residue}
 use Rattle.siit_roles.specs.declared.settings.Settings.{Settings}
-use Rattle.siit_pair.specs.Same.{error_backward, error_behind, error_forward, is_same_error, is_same_unsummed, is_the_message, unsummed}
+use Rattle.siit_pair.specs.Same.{error_backward, error_behind, error_forward, is_same_error, is_the_message, unsummed}
 use Rattle.siit_pair.proofs.Unsummed.{checksum-unseen}
 
 equal-test : (a b : ℕ) → a ≡ b → (a == b) ≡ true

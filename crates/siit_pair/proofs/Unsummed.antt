@@ -1,5 +1,5 @@
 -- Errors as they stand in the buffer, with whatever checksum they have there.
-use Rattle.std.proofs.Common.{◌≡◌, ℕ, ◌+◌, ◌≤◌, List, [], ◌∷◌, ◌++◌, length, take, drop, replicate, Bool, ◌&&◌, if◌then◌else◌, Option, Some, None, Result, Ok, Err, refl, ap, ◌∙◌, sym, arith, length-append}
+use Rattle.std.proofs.Common.{◌≡◌, ℕ, ◌≤◌, List, [], ◌∷◌, ◌++◌, length, take, drop, replicate, Bool, ◌&&◌, if◌then◌else◌, Option, Some, None, Result, Ok, Err, refl, ap, ◌∙◌, sym, arith, length-append}
 use Rattle.std.specs.Prelude.{is_none}
 use Rattle.siit_model.specs.Fragments.{Common}
 use Rattle.siit_model.specs.Ipv6.{ipv6_fields}

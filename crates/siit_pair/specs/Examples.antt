@@ -1,5 +1,5 @@
 -- Datagrams that a pair carries from end to end, as worked by hand, and what breaks one line of the promise alone.
-use Rattle.std.specs.Prelude.{◌≡◌, ℕ, ◌+◌, ◌*◌, ◌^◌, List, [], ◌∷◌, ◌++◌, take, replicate, Bool, true, false, is_some, Option, Some, None}
+use Rattle.std.specs.Prelude.{◌≡◌, ℕ, ◌+◌, ◌*◌, ◌^◌, List, [], ◌∷◌, ◌++◌, take, replicate, Bool, true, false, is_some, None}
 use Rattle.std.specs.List.{flat_map}
 use Rattle.std.proofs.Common.{lit≤}
 use Rattle.siit_model.specs.Bytes.{bytes32, with_field16}
@@ -8,7 +8,7 @@ use Rattle.siit_model.specs.Ipv4.{Ipv4Packet, ipv4_bytes, ipv4_fields}
 use Rattle.siit_addr.specs.Addresses.{dotted}
 use Rattle.siit_addr.specs.declared.addr.Prefix6.{Prefix6}
 use Rattle.siit_eamt.specs.declared.entry.Eam.{Eam as Entry}
-use Rattle.siit_map.specs.Mapping.{Mapping, table}
+use Rattle.siit_map.specs.Mapping.{table}
 use Rattle.siit_roles.specs.declared.role.Role.{Role}
 use Rattle.siit_roles.specs.declared.role.Role.TheVariants.{Border, Edge}
 use Rattle.siit_roles.specs.declared.settings.Settings.{Settings}

@@ -1,6 +1,6 @@
 -- What a datagram is behind a pair of devices: itself, but for what its translation to IPv6 and back changes (RFC
 -- 7915). The identification, Don't Fragment, the options, the lengths and the header checksum aren't looked at.
-use Rattle.std.specs.Prelude.{◌≡◌, ℕ, ◌+◌, ◌%◌, List, [], ◌∷◌, ◌++◌, length, Bool, true, false, not, ◌&&◌, ◌||◌, ◌==◌, nat_le, if◌then◌else◌, is_none, is_ok, is_some, Option, Some, None, Result, Ok, Err, option_and_then}
+use Rattle.std.specs.Prelude.{◌≡◌, ℕ, ◌+◌, ◌%◌, List, ◌∷◌, ◌++◌, length, Bool, true, false, not, ◌&&◌, ◌||◌, ◌==◌, nat_le, if◌then◌else◌, is_none, is_ok, is_some, Option, Some, None, Result, Ok, Err, option_and_then}
 use Rattle.std.specs.Str.{bytes_eq}
 use Rattle.siit_model.specs.Bytes.{field8, field16, field32, with_field16}
 use Rattle.siit_model.specs.Checksum.{pseudo4, residue}

@@ -1,4 +1,4 @@
-use Rattle.std.proofs.Common.{◌≡◌, ◌∙◌, sym}
+use Rattle.std.proofs.Common.{◌∙◌, sym}
 use Rattle.siit_pair.proofs.ErrorsMade.{forward-no-pointer, forward-no-row, forward-refused, forward-unmapped}
 use Rattle.siit_pair.proofs.accepted.accepted_error4.Goals as goal
 

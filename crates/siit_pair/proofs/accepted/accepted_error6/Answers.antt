@@ -1,4 +1,4 @@
-use Rattle.std.proofs.Common.{◌≡◌, ◌∙◌, sym}
+use Rattle.std.proofs.Common.{◌∙◌, sym}
 use Rattle.siit_pair.proofs.ErrorsMade.{backward-no-pointer, backward-no-row, backward-refused, backward-unmapped}
 use Rattle.siit_pair.proofs.accepted.accepted_error6.Goals as goal
 

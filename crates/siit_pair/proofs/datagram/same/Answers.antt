@@ -1,4 +1,4 @@
-use Rattle.std.proofs.Common.{◌≡◌, List, [], ◌∷◌, ℕ, Bool, ◌∙◌, ap, sym, refl}
+use Rattle.std.proofs.Common.{◌≡◌, List, [], ◌∷◌, ℕ, ◌∙◌, sym}
 use Rattle.siit_model.specs.Ipv4.{ipv4_fields}
 use Rattle.siit_roles.specs.declared.settings.Settings.{Settings}
 use Rattle.siit_pair.specs.Same.{is_same_from}

@@ -1,4 +1,4 @@
-use Rattle.std.proofs.Common.{◌≡◌, ◌+◌, ◌∙◌, ◌&&◌, Bool, List, ℕ, ap, drop, nat_eq, sym}
+use Rattle.std.proofs.Common.{◌+◌, ◌∙◌, ◌&&◌, Bool, List, ℕ, ap, drop, nat_eq, sym}
 use Rattle.std.specs.Cmp.Lexicographic.{pointwise}
 use Rattle.siit_pair.proofs.EqualBytes.{behind-equal, unsummed-equal}
 use Rattle.siit_pair.proofs.equal.is_same_unsummed.Goals as goal

@@ -1,4 +1,4 @@
-use Rattle.std.proofs.Common.{◌≡◌, ◌∙◌, List, ℕ, Some, ap, subst, sym}
+use Rattle.std.proofs.Common.{◌∙◌, List, ℕ, Some, ap, subst, sym}
 use Rattle.siit_model.specs.Fragments.{Common}
 use Rattle.siit_arrival6.specs.Arrived.{HasError6}
 use Rattle.siit_pair.proofs.ErrorsMade.{backward-made}

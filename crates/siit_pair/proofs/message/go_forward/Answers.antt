@@ -1,4 +1,4 @@
-use Rattle.std.proofs.Common.{◌≡◌, ◌≤◌, ◌∙◌, List, ℕ, Some, ap, drop, length, subst, sym}
+use Rattle.std.proofs.Common.{◌≤◌, ◌∙◌, List, ℕ, Some, ap, length, subst, sym}
 use Rattle.siit_arrival4.specs.Arrived.{HasError4}
 use Rattle.siit_pair.specs.Same.{unsummed}
 use Rattle.siit_pair.proofs.ErrorsMade.{forward-made}

@@ -1,4 +1,4 @@
-use Rattle.std.proofs.Common.{◌≡◌, ◌≤◌, ◌∙◌, List, ℕ, None, Some, ap, length, subst, sym}
+use Rattle.std.proofs.Common.{◌≡◌, ◌∙◌, List, ℕ, None, Some, ap, sym}
 use Rattle.siit_model.specs.Checksum.{residue}
 use Rattle.siit_pair.specs.Same.{error_forward, is_same_unsummed, unsummed}
 use Rattle.siit_pair.proofs.SameErrors.{same-by-bytes}
