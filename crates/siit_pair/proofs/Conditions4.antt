@@ -1,12 +1,11 @@
 -- What is known of an IPv4 packet where no rule on its upper part or its quote holds.
-use Rattle.std.proofs.Common.{◌≡◌, ◌⊎◌, ℕ, ◌≤◌, List, length, Bool, true, false, not, ◌&&◌, ◌||◌, ◌==◌, nat_lt, if◌then◌else◌, is_err, is_none, is_ok, is_some, Option, Some, None, Result, Ok, Err, ok_or, ◌∙◌, ap, sym, refl, arith}
-use Rattle.std.proofs.lemmas.Bool.{and_parts, and_from, eqb-true, eq-eqb, ltb-false}
+use Rattle.std.proofs.Common.{◌≡◌, ℕ, ◌≤◌, List, length, Bool, true, false, ◌&&◌, ◌||◌, ◌==◌, nat_lt, if◌then◌else◌, is_err, is_none, is_ok, is_some, Option, Some, None, Result, Ok, Err, ok_or, ap, refl}
+use Rattle.std.proofs.lemmas.Bool.{eq-eqb, ltb-false}
 use Rattle.std.specs.Result.{result_err}
-use Rattle.siit_model.specs.Bytes.{field8, field16}
-use Rattle.siit_model.specs.Ipv4.{Ipv4Packet, ipv4_fields, is_whole4}
+use Rattle.siit_model.specs.Bytes.{field8}
+use Rattle.siit_model.specs.Ipv4.{Ipv4Packet, ipv4_fields}
 use Rattle.siit_rules.specs.declared.rule.Rule.{Rule}
 use Rattle.siit_rules.specs.declared.rule.Rule.TheVariants.{IcmpType4, IcmpCode4, QuoteShort4, QuoteBad4, NestedTwice4, QuoteType4}
-use Rattle.siit_icmp.specs.Errors.{is_error_kind4}
 use Rattle.siit_icmp.specs.Icmp.{icmp_to_6, pointer_to_6, is_echo_kind4, echo_kind6, new, problem_to_6, unreachable_to_6}
 use Rattle.siit_icmp.specs.declared.kinds.NewKind.{NewKind}
 use Rattle.siit_icmp.specs.declared.kinds.Rest.{Rest}

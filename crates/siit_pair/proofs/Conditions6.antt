@@ -1,10 +1,9 @@
 -- What is known of an ICMPv6 error where no rule on its upper part or its quote holds.
-use Rattle.std.proofs.Common.{◌≡◌, ℕ, ◌≤◌, List, length, Bool, true, false, not, ◌&&◌, ◌||◌, ◌==◌, nat_lt, if◌then◌else◌, is_err, is_none, is_ok, is_some, Option, Some, None, Result, Ok, Err, ok_or, ◌∙◌, ap, sym, refl, arith, eq-eqb}
-use Rattle.std.proofs.lemmas.Bool.{and_parts, eqb-true, ltb-false}
+use Rattle.std.proofs.Common.{◌≡◌, ℕ, ◌≤◌, List, length, Bool, true, false, not, ◌&&◌, ◌||◌, ◌==◌, nat_lt, if◌then◌else◌, is_err, is_none, is_ok, is_some, Option, Some, None, Result, Ok, Err, ok_or, ap, refl, arith, eq-eqb}
+use Rattle.std.proofs.lemmas.Bool.{ltb-false}
 use Rattle.std.specs.Result.{result_err}
 use Rattle.siit_model.specs.Bytes.{field8, field32}
 use Rattle.siit_model.specs.Extensions.{Walked, Trouble, runs_short, out_of_order, behind_fragment}
-use Rattle.siit_model.specs.Fragments.{Fragment}
 use Rattle.siit_model.specs.Ipv6.{Ipv6Packet, ipv6_fields, version6_in}
 use Rattle.siit_rules.specs.declared.rule.Rule.{Rule}
 use Rattle.siit_rules.specs.declared.rule.Rule.TheVariants.{IcmpType6, IcmpCode6, QuoteShort6, QuoteBad6, NestedTwice6, QuoteType6}

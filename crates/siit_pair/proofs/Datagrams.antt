@@ -1,27 +1,24 @@
 -- Whole datagrams behind two devices.
-use Rattle.std.proofs.Common.{◌≡◌, ℕ, ◌+◌, ◌-◌, ◌<◌, ◌≤◌, List, [], ◌∷◌, length, Bool, true, false, not, ◌&&◌, ◌||◌, ◌==◌, nat_le, if◌then◌else◌, is_err, Option, Some, None, Result, Ok, Err, ok_or, ◌∙◌, ap, sym, subst, refl, arith, eq-eqb, ne_eqb, le-leb}
+use Rattle.std.proofs.Common.{◌≡◌, ℕ, ◌+◌, ◌-◌, ◌<◌, ◌≤◌, List, [], ◌∷◌, length, Bool, true, false, not, ◌&&◌, ◌||◌, ◌==◌, nat_le, if◌then◌else◌, is_err, Option, Result, Ok, Err, ok_or, ◌∙◌, ap, sym, subst, refl, arith, eq-eqb, ne_eqb, le-leb}
 use Rattle.std.specs.List.{list_any}
-use Rattle.std.specs.Str.{bytes_eq}
-use Rattle.std.proofs.lemmas.Bool.{cond_both, cond-false, and_from, and_parts, and_right, eqb-true, eqb-false, not-true}
+use Rattle.std.proofs.lemmas.Bool.{cond_both, cond-false, and_from, and_parts, and_right, eqb-true, eqb-false}
 use Rattle.siit_model.specs.Bytes.{field8, field16}
-use Rattle.siit_model.specs.Fragments.{Datagram, datagram4, is_whole, whole_of}
+use Rattle.siit_model.specs.Fragments.{Datagram, datagram4, whole_of}
 use Rattle.siit_model.specs.Ipv4.{Ipv4Packet, IsGoodIpv4, is_whole4}
 use Rattle.siit_icmp.specs.Errors.{is_error_kind4}
 use Rattle.siit_icmp.specs.Icmp.{icmp_to_6, is_echo_kind4, echo_kind6, new, problem_to_6, unreachable_to_6}
 use Rattle.siit_icmp.specs.declared.kinds.NewKind.{NewKind}
 use Rattle.siit_icmp.specs.declared.kinds.Rest.TheVariants.{Same, Length}
-use Rattle.siit_map.specs.Mapping.{Mapping, ipv4_for, ipv6_for}
+use Rattle.siit_map.specs.Mapping.{Mapping, ipv4_for}
 use Rattle.siit_map.specs.Reversible.{IsReversible}
 use Rattle.siit_quoted.specs.Quotes.{written_class}
-use Rattle.siit_rules.specs.declared.rule.Rule.{Rule}
 use Rattle.siit_rules.specs.declared.rule.Rule.TheVariants.{IcmpCode4, IcmpType4}
 use Rattle.siit_roles.specs.declared.settings.Settings.{Settings}
 use Rattle.siit_v4to6.specs.To6.{next_header_of}
 use Rattle.siit_v6to4.specs.To4.{protocol_of}
 use Rattle.siit_device.specs.Addresses.{address_of, to4, to6}
-use Rattle.siit_device.specs.Arrival4.{has_clash4, is_bare_dropped4, is_bare_mislength4, is_error4, lacks_checksum4}
+use Rattle.siit_device.specs.Arrival4.{has_clash4, is_error4, lacks_checksum4}
 use Rattle.siit_device.specs.Arrival6.{is_error6}
-use Rattle.siit_device.specs.Backward.{address_in, source_to_4}
 use Rattle.siit_device.specs.Shapes.{least_upper}
 use Rattle.siit_cutting.specs.Laws.{HasAddresses6}
 use Rattle.siit_pair.specs.Across.{across, between}
@@ -63,7 +60,7 @@ no-error-of : {A B : Type 0} (r : Result A B) (x : A) → r ≡ Ok x → is_err 
 no-error-of r x is = rw is refl
 
 -- an address that comes back is mapped by the second device
-mapped-back : (first second : Settings) → first.mapping ≡ second.mapping → (a : ℕ) → IsReversible first.mapping a
+pub mapped-back : (first second : Settings) → first.mapping ≡ second.mapping → (a : ℕ) → IsReversible first.mapping a
     → is_err (ipv4_for second.mapping (to6 first a)) ≡ false
 mapped-back first second alike a back =
     ap (λ (m : Mapping). is_err (ipv4_for m (to6 first a))) (sym alike)
@@ -99,7 +96,7 @@ error-or_echo false false false true twelve x y k l n is = refl
 error-or_echo false false false false true x y k l n is = refl
 error-or_echo false false false false false x y k l n is = cc
 
-is-error : (kind code : ℕ) (n : NewKind) → icmp_to_6 kind code ≡ Ok n → is_echo_kind4 kind ≡ false → is_error_kind4 kind ≡ true
+pub is-error : (kind code : ℕ) (n : NewKind) → icmp_to_6 kind code ≡ Ok n → is_echo_kind4 kind ≡ false → is_error_kind4 kind ≡ true
 is-error kind code n is no_echo =
     error-or_echo (kind == 3) (kind == 4) (kind == 5) (kind == 11) (kind == 12) (unreachable_to_6 code) (problem_to_6 code) (new (echo_kind6 kind) code Same) (new 3 code Length) n
     (sym (cond-false (is_echo_kind4 kind) (Ok (new (echo_kind6 kind) code Same)) _ no_echo) ∙ is)

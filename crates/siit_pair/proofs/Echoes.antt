@@ -1,10 +1,10 @@
 -- Echo messages behind two devices.
-use Rattle.std.proofs.Common.{◌≡◌, ℕ, ◌+◌, ◌*◌, ◌%◌, ◌<◌, ◌≤◌, List, [], ◌∷◌, ◌++◌, length, slice_set, Bool, true, false, not, ◌&&◌, ◌||◌, ◌==◌, nat_lt, if◌then◌else◌, ◌∙◌, ap, sym, subst, refl, arith, ⊎_elim, eq-eqb, ne_eqb, lt-ltb}
+use Rattle.std.proofs.Common.{◌≡◌, ℕ, ◌+◌, ◌*◌, ◌%◌, ◌<◌, ◌≤◌, List, [], ◌∷◌, ◌++◌, length, slice_set, Bool, true, false, ◌||◌, ◌==◌, nat_lt, if◌then◌else◌, ◌∙◌, ap, sym, subst, refl, arith, eq-eqb, lt-ltb}
 use Rattle.std.specs.Int.{byte_at}
 use Rattle.std.proofs.lemmas.Bool.{cond-true, and_from, and_left, and_right, eqb-true}
-use Rattle.siit_model.specs.Bytes.{AreBytes, bytes16, field8, field16, with_field16}
+use Rattle.siit_model.specs.Bytes.{AreBytes, bytes16, field8, field16}
 use Rattle.siit_model.specs.Checksum.{moved, pseudo6}
-use Rattle.siit_model.specs.Fragments.{Common, Datagram, Fragment, datagram4, whole_of}
+use Rattle.siit_model.specs.Fragments.{Fragment, datagram4, whole_of}
 use Rattle.siit_model.specs.Ipv4.{Ipv4Packet}
 use Rattle.siit_model.specs.Upper.{has_field16}
 use Rattle.siit_checksum.proofs.Digits.{two-read}
@@ -110,6 +110,9 @@ module _ (first second : Settings) (d : Ipv4Packet) (icmp : d.protocol ≡ 1) (k
       (not-number d.protocol 1 6 icmp refl) (not-number d.protocol 1 17 icmp refl) (eq-eqb d.protocol 1 icmp)
       ∙ echo-to_6 kind kind6 code high low six rest is_echo is_kind6
 
+  kind-between : is_error_kind6 (field8 (between first sent).payload 0) ≡ false
+  kind-between = ap (λ l. is_error_kind6 (field8 l 0)) forward ∙ no_error_kind
+
   echo-across : IsMoved 2 part (across first second sent id).payload
   echo-across =
       let read : byte_at 1 once * 256 + byte_at 0 once ≡ once =
@@ -145,6 +148,32 @@ module _ (first second : Settings) (d : Ipv4Packet) (id : ℕ) (icmp : d.protoco
       subst (λ k. IsMoved 2 (k ∷ y ∷ z ∷ w ∷ rest) (across first second (record d { payload = k ∷ y ∷ z ∷ w ∷ rest }) id).payload) (sym is)
       (echo-across first second d icmp kind kind6 y z w rest id small small6 code a b c e f g)
 
+  between-at : (kind kind6 : ℕ) → kind < 256 → kind6 < 256 → is_echo_kind4 kind ≡ true → is_echo_kind6 kind6 ≡ true → echo_kind6 kind ≡ kind6 → echo_kind4 kind6 ≡ kind
+      → is_error_kind4 kind ≡ false → is_error_kind6 kind6 ≡ false
+      → (payload : List ℕ) → field8 payload 0 ≡ kind → field8 payload 1 < 256 → 4 ≤ length payload
+      → is_error_kind6 (field8 (between first (record d { payload = payload })).payload 0) ≡ false
+  between-at kind kind6 small small6 a b c e f g [] is code long = absurd (omega arith)
+  between-at kind kind6 small small6 a b c e f g (x ∷ []) is code long = absurd (omega arith)
+  between-at kind kind6 small small6 a b c e f g (x ∷ y ∷ []) is code long = absurd (omega arith)
+  between-at kind kind6 small small6 a b c e f g (x ∷ y ∷ z ∷ []) is code long = absurd (omega arith)
+  between-at kind kind6 small small6 a b c e f g (x ∷ y ∷ z ∷ w ∷ rest) is code long =
+      subst (λ k. is_error_kind6 (field8 (between first (record d { payload = k ∷ y ∷ z ∷ w ∷ rest })).payload 0) ≡ false) (sym is)
+      (kind-between first second d icmp kind kind6 y z w rest id small small6 code a b c e f g)
+
+  by-kind : {X : Type 0} (a b : Bool) → (a || b) ≡ true → (a ≡ true → X) → (b ≡ true → X) → X
+  by-kind true b e at_a at_b = at_a refl
+  by-kind false true e at_a at_b = at_b refl
+  by-kind false false e at_a at_b = cc
+
+  -- an echo message is no error between the devices
+  pub echo-between : AreBytes d.payload → 8 ≤ length d.payload → is_echo_kind4 (field8 d.payload 0) ≡ true
+      → is_error_kind6 (field8 (between first d).payload 0) ≡ false
+  echo-between bytes long echo =
+      let code : field8 d.payload 1 < 256 = bytes 1 in
+      by-kind (field8 d.payload 0 == 8) (field8 d.payload 0 == 0) echo
+      (λ is. between-at 8 128 (omega arith) (omega arith) refl refl refl refl refl refl d.payload (eqb-true (field8 d.payload 0) 8 is) code (omega arith))
+      (λ is. between-at 0 129 (omega arith) (omega arith) refl refl refl refl refl refl d.payload (eqb-true (field8 d.payload 0) 0 is) code (omega arith))
+
   pub echoes-across : AreBytes d.payload → 8 ≤ length d.payload → is_echo_kind4 (field8 d.payload 0) ≡ true
       → IsMoved 2 d.payload (across first second d id).payload
   echoes-across bytes long echo =
@@ -152,8 +181,3 @@ module _ (first second : Settings) (d : Ipv4Packet) (id : ℕ) (icmp : d.protoco
       by-kind (field8 d.payload 0 == 8) (field8 d.payload 0 == 0) echo
       (λ is. at-kind 8 128 (omega arith) (omega arith) refl refl refl refl refl refl d.payload (eqb-true (field8 d.payload 0) 8 is) code (omega arith))
       (λ is. at-kind 0 129 (omega arith) (omega arith) refl refl refl refl refl refl d.payload (eqb-true (field8 d.payload 0) 0 is) code (omega arith))
-    where
-      by-kind : {X : Type 0} (a b : Bool) → (a || b) ≡ true → (a ≡ true → X) → (b ≡ true → X) → X
-      by-kind true b e at_a at_b = at_a refl
-      by-kind false true e at_a at_b = at_b refl
-      by-kind false false e at_a at_b = cc

@@ -1,25 +1,21 @@
 -- Fragments that cross two devices.
-use Rattle.std.proofs.Common.{◌≡◌, ◌⊎◌, ℕ, ◌+◌, ◌-◌, ◌<◌, ◌≤◌, List, [], ◌∷◌, ◌++◌, length, map, get_or, All, flat_map, Bool, true, false, ◌&&◌, ◌||◌, ◌==◌, if◌then◌else◌, Some, None, ◌∙◌, ap, sym, subst, refl, ⊎_elim, arith, ne_eqb, true≢false}
+use Rattle.std.proofs.Common.{◌≡◌, ℕ, ◌-◌, ◌≤◌, List, [], ◌∷◌, length, map, get_or, All, flat_map, Bool, true, false, ◌||◌, ◌==◌, if◌then◌else◌, Some, None, ◌∙◌, ap, sym, subst, refl, ⊎_elim, arith, ne_eqb, true≢false}
 use Rattle.std.specs.List.{list_any}
 use Rattle.std.proofs.lemmas.Bool.{and_parts, eqb-true}
-use Rattle.std.proofs.lemmas.List.Elements.{All-cons, All-head, All-map, All-nil, All-tail}
-use Rattle.siit_model.specs.Bytes.{AreBytes}
-use Rattle.siit_model.specs.Checksum.{checksum_place}
-use Rattle.siit_model.specs.Fragments.{Common, Datagram, Fragment, datagram4, fragment4, is_whole, whole_of}
+use Rattle.std.proofs.lemmas.List.Elements.{All-head, All-map, All-tail}
+use Rattle.siit_model.specs.Fragments.{Datagram, datagram4, fragment4, whole_of}
 use Rattle.siit_model.specs.Ipv4.{Ipv4Packet, IsGoodIpv4, ipv4_fields, is_whole4}
-use Rattle.siit_model.specs.Ipv6.{Ipv6Packet, ipv6_bytes, ipv6_fields}
-use Rattle.siit_fragments.specs.Covers.{Covers, Covers4, Covers6, IsFragmentOf, IsOneWhole, IsPart}
+use Rattle.siit_model.specs.Ipv6.{ipv6_bytes, ipv6_fields}
+use Rattle.siit_fragments.specs.Covers.{Covers4, Covers6, IsFragmentOf, IsOneWhole}
 use Rattle.siit_fragments.specs.Laws.{HasChecksum}
 use Rattle.siit_fragments.proofs.Lists.{All-flat_map, All-from_map}
 use Rattle.siit_roles.specs.Limits.{IsWithinLimits}
 use Rattle.siit_roles.specs.declared.settings.Settings.{Settings}
-use Rattle.siit_device.specs.Forward.{packets_to_6, upper_forward}
-use Rattle.siit_device.specs.Rules4.{first_rule4}
-use Rattle.siit_device.specs.Rules6.{first_rule6}
+use Rattle.siit_device.specs.Forward.{packets_to_6}
 use Rattle.siit_arrival4.specs.Unruled.{IsUnruled, RulesLeave4}
 use Rattle.siit_arrival6.specs.Unruled.{RulesLeave6}
-use Rattle.siit_cutting.specs.Laws.{CuttingCommutesTo4, CuttingCommutesTo6, HasAddresses4, HasAddresses6, IsTaken4, IsTaken6, IsWalked, Numbered, first_id, given_to_4}
-use Rattle.siit_pair.specs.Across.{across, between}
+use Rattle.siit_cutting.specs.Laws.{CuttingCommutesTo4, CuttingCommutesTo6, HasAddresses6, IsTaken4, IsWalked, Numbered, first_id, given_to_4}
+use Rattle.siit_pair.specs.Across.{between}
 use Rattle.siit_pair.specs.Laws.{AreReversible, ComesOut, FragmentsComeAcross, GoesAcross, PassesBoth}
 use Rattle.siit_pair.proofs.Conditions4.{HasUpper4, has-upper4}
 use Rattle.siit_pair.proofs.Datagrams.{datagrams_across}
@@ -55,7 +51,7 @@ holds-checksum false false false false bytes e f = tt
 three : (n : ℕ) → 2 ≤ n - 1 → 3 ≤ n
 three n is = omega arith
 
-module _ (law4 : RulesLeave4) (law6 : RulesLeave6) (cut6 : CuttingCommutesTo6) (cut4 : CuttingCommutesTo4)
+module _ (law4 : RulesLeave4) (law6 : RulesLeave6) (cut6 : CuttingCommutesTo6)
     (first second : Settings) (d : Ipv4Packet) (entered : List (List ℕ)) (numbered : List Numbered) (alike : first.mapping ≡ second.mapping)
     (limits : IsWithinLimits first) (limits2 : IsWithinLimits second) (good : IsGoodIpv4 d) (whole : is_whole4 d ≡ true)
     (back : AreReversible first.mapping d) (addresses : HasAddresses6 first (datagram4 d).common)
@@ -83,10 +79,10 @@ module _ (law4 : RulesLeave4) (law6 : RulesLeave6) (cut6 : CuttingCommutesTo6) (
       (λ k p within. given-read first (get_or packets k p) limits (taken k p within)
       (subst (λ c. HasAddresses6 first c) (sym (of k p within).shares) addresses))
 
-  read-between : All (λ x. IsReadAgain x.0) numbered
+  pub read-between : All (λ x. IsReadAgain x.0) numbered
   read-between = All-from_map IsReadAgain (λ (x : Numbered). x.0) numbered (subst (λ l. All IsReadAgain l) (sym passes.given) read-given)
 
-  facts6 : All (Facts6 second) numbered
+  pub facts6 : All (Facts6 second) numbered
   facts6 = λ k x within.
       let y : Numbered = get_or numbered k x in
       let again = read-between k x within in
@@ -111,13 +107,13 @@ module _ (law4 : RulesLeave4) (law6 : RulesLeave6) (cut6 : CuttingCommutesTo6) (
   six : Covers6 e (flat_map (packets_to_6 first) packets)
   six = cut6 first d packets limits addresses short covers taken walks
 
-  six-numbered : Covers6 e (map (λ x. x.0) numbered)
+  pub six-numbered : Covers6 e (map (λ x. x.0) numbered)
   six-numbered = subst (λ l. Covers6 e l) (sym passes.given) six
 
   living : 3 ≤ d.ttl
   living = three d.ttl (lives second e numbered six-numbered facts6)
 
-  goes : GoesAcross first second d
+  pub goes : GoesAcross first second d
   goes =
       ⊎_elim (λ one. at-whole packets facts of one passes.given)
       (λ parts. goes-parts first second d packets facts covers parts living) covers.form
@@ -130,7 +126,7 @@ module _ (law4 : RulesLeave4) (law6 : RulesLeave6) (cut6 : CuttingCommutesTo6) (
           goes-whole first second d whole covers.id p (All-head (Facts first) p [] known)
           (All-head (λ q. IsFragmentOf (datagram4 d) covers.id (fragment4 q)) p [] parts) one living numbered given facts6
 
-  unruled : IsUnruled (whole_of (datagram4 d))
+  pub unruled : IsUnruled (whole_of (datagram4 d))
   unfolding clashes
   unruled =
       let upper : HasUpper4 first d = has-upper4 first d (eqb-true d.offset 0 (and_parts (d.offset == 0) (d.mf == 0) whole).0) goes.upper in
@@ -152,8 +148,8 @@ module _ (law4 : RulesLeave4) (law6 : RulesLeave6) (cut6 : CuttingCommutesTo6) (
       clear : (n : ℕ) → clashes n ≡ true → d.protocol ≡ n → ⊥
       clear n is same = no-clash d.protocol n goes.no_clash is same
 
-  pub comes-out : ComesOut first second d numbered (flat_map (given_to_4 second) numbered)
-  comes-out = record {
+  pub comes-out : CuttingCommutesTo4 → ComesOut first second d numbered (flat_map (given_to_4 second) numbered)
+  comes-out cut4 = record {
     is_read = read-all numbered read-between;
     covers = cut4 second e numbered limits2
         (let range = range4 first second d 0 alike good back addresses in record { source = range.source4; destination = range.destination4 })
@@ -167,4 +163,4 @@ module _ (law4 : RulesLeave4) (law6 : RulesLeave6) (cut6 : CuttingCommutesTo6) (
 
 pub fragments_across : RulesLeave4 → RulesLeave6 → CuttingCommutesTo6 → CuttingCommutesTo4 → FragmentsComeAcross
 fragments_across law4 law6 cut6 cut4 first second d entered numbered alike limits limits2 good whole back addresses covers passes =
-    comes-out law4 law6 cut6 cut4 first second d entered numbered alike limits limits2 good whole back addresses covers passes
+    comes-out law4 law6 cut6 first second d entered numbered alike limits limits2 good whole back addresses covers passes cut4

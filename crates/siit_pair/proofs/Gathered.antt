@@ -1,26 +1,23 @@
 -- What no rule forbids of a datagram, from the packets that cover it.
-use Rattle.std.proofs.Common.{◌≡◌, ℕ, ◌+◌, ◌-◌, ◌*◌, ◌<◌, ◌≤◌, List, [], ◌∷◌, ◌++◌, length, take, map, get_or, All, Any, Contains, flat_map, Bool, true, false, not, ◌&&◌, ◌||◌, ◌==◌, nat_lt, if◌then◌else◌, Option, Some, None, Result, Ok, Err, ◌∙◌, ap, sym, subst, refl, ⊎_elim, arith, eq-eqb, ne_eqb, le-ltb, true≢false}
+use Rattle.std.proofs.Common.{◌≡◌, ℕ, ◌+◌, ◌*◌, ◌<◌, ◌≤◌, List, [], ◌∷◌, ◌++◌, length, take, map, get_or, All, Contains, Bool, true, false, not, ◌&&◌, ◌==◌, nat_lt, if◌then◌else◌, Option, Some, None, Result, Ok, Err, ◌∙◌, ap, sym, subst, refl, ⊎_elim, arith, ne_eqb, le-ltb, true≢false}
 use Rattle.std.specs.List.{list_any}
 use Rattle.std.proofs.lemmas.Bool.{and_left, and_right, and_parts, cases_eq, cond-false, eqb-true}
 use Rattle.std.proofs.lemmas.List.Elements.{All-contains, All-head}
-use Rattle.siit_model.specs.Bytes.{field8, field16, part}
+use Rattle.siit_model.specs.Bytes.{field16, part}
 use Rattle.siit_model.specs.Checksum.{checksum_place}
 use Rattle.siit_model.specs.Extensions.{Walked, Trouble, walk_of}
-use Rattle.siit_model.specs.Fragments.{Common, Datagram, Fragment, common4, datagram4, fragment4, fragment6, fragment_by, fragment_if, is_whole, plain_packet6, whole_of}
-use Rattle.siit_model.specs.Ipv4.{Ipv4Packet, IsGoodIpv4, is_whole4}
+use Rattle.siit_model.specs.Fragments.{Common, Datagram, Fragment, datagram4, fragment4, fragment6, fragment_by, fragment_if, is_whole, plain_packet6, whole_of}
+use Rattle.siit_model.specs.Ipv4.{Ipv4Packet, is_whole4}
 use Rattle.siit_model.specs.Ipv6.{Ipv6Packet}
-use Rattle.siit_icmp.specs.Errors.{is_error_kind4}
-use Rattle.siit_rules.specs.declared.rule.Rule.{Rule}
 use Rattle.siit_rules.specs.declared.rule.Rule.TheVariants.{UpperShort4, IcmpFragment4, UdpZeroFragment4, UdpZero4, UdpLength4, IcmpType4, IcmpCode4, IcmpPointer4, QuoteShort4, QuoteBad4, NestedTwice4, QuoteType4, QuoteAddress4}
 use Rattle.siit_fragments.specs.Covers.{Covers, Covers6, HoldsByte, IsFragmentOf, IsPart}
 use Rattle.siit_fragments.proofs.Lists.{All-from_map, Any-from_map}
 use Rattle.siit_fragments.proofs.Parts.{field16-take}
 use Rattle.siit_fragments.proofs.Wholes.{WholeFields, whole-fields}
 use Rattle.siit_roles.specs.declared.settings.Settings.{Settings}
-use Rattle.siit_v4to6.specs.To6.{common_to_6, next_header_of, packet6}
+use Rattle.siit_v4to6.specs.To6.{common_to_6, next_header_of}
 use Rattle.siit_v4to6.proofs.Packets.{plain-packet}
 use Rattle.siit_device.specs.Arrival4.{has_clash4, is_error4, is_upper_short4, lacks_checksum4}
-use Rattle.siit_device.specs.Arrival6.{Arrived}
 use Rattle.siit_device.specs.Forward.{head6_for, is_cut6, packets_to_6, pieces6, translated6, upper_forward, whole6}
 use Rattle.siit_device.specs.Rows.{first_of}
 use Rattle.siit_device.specs.Rules4.{header_rows4, quote_rows4, upper_rows4}

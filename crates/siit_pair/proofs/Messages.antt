@@ -1,18 +1,17 @@
 -- ICMP errors behind two devices: the message is what both make of it, and its residue stays.
-use Rattle.std.proofs.Common.{◌≡◌, ℕ, ◌+◌, ◌*◌, ◌-◌, ◌%◌, ◌<◌, ◌≤◌, List, [], ◌∷◌, ◌++◌, length, take, drop, Bool, true, false, not, ◌&&◌, ◌||◌, ◌==◌, nat_lt, if◌then◌else◌, is_none, is_ok, is_some, unwrap_or, Option, Some, None, Result, Ok, Err, option_and_then, ◌∙◌, ap, sym, subst, refl, arith, eq-eqb, ne_eqb}
+use Rattle.std.proofs.Common.{◌≡◌, ℕ, ◌+◌, ◌*◌, ◌%◌, ◌<◌, ◌≤◌, List, [], ◌∷◌, ◌++◌, length, take, drop, Bool, true, false, ◌&&◌, ◌==◌, if◌then◌else◌, is_none, is_ok, is_some, unwrap_or, Option, Some, None, Result, Ok, option_and_then, ◌∙◌, ap, sym, refl, arith, eq-eqb}
 use Rattle.std.specs.Int.{byte_at}
 use Rattle.std.specs.Result.{result_err}
-use Rattle.std.specs.Str.{bytes_eq}
-use Rattle.std.proofs.lemmas.Bool.{cond-true, cond-false, and_from, and_parts, eqb-true}
+use Rattle.std.proofs.lemmas.Bool.{cond-true, and_from}
 use Rattle.std.proofs.lemmas.List.{length-take-le, length-drop, length-append}
-use Rattle.siit_model.specs.Bytes.{bytes16, part, field8, field16, field32, with_field16}
+use Rattle.siit_model.specs.Bytes.{bytes16, part, field8, field16, field32}
 use Rattle.siit_model.specs.Checksum.{moved, pseudo6, residue, words_sum}
-use Rattle.siit_model.specs.Fragments.{Common, Datagram, datagram4, is_whole, whole_of}
-use Rattle.siit_model.specs.Ipv4.{Ipv4Packet, ipv4_fields, is_whole4}
+use Rattle.siit_model.specs.Fragments.{Common, datagram4, is_whole, whole_of}
+use Rattle.siit_model.specs.Ipv4.{Ipv4Packet, ipv4_fields}
 use Rattle.siit_model.specs.Ipv6.{ipv6_fields}
 use Rattle.siit_checksum.proofs.Digits.{two-read}
 use Rattle.siit_icmp.specs.Errors.{is_error_kind4, is_error_kind6}
-use Rattle.siit_icmp.specs.Icmp.{icmp_to_4, icmp_to_6, is_echo_kind4, mtu_to_4, pointer_to_4}
+use Rattle.siit_icmp.specs.Icmp.{icmp_to_4, icmp_to_6, mtu_to_4, pointer_to_4}
 use Rattle.siit_icmp.specs.declared.kinds.NewKind.{NewKind}
 use Rattle.siit_icmp.specs.declared.kinds.Rest.{Rest}
 use Rattle.siit_icmp.specs.declared.kinds.Rest.TheVariants.{Same, Zero, Mtu, Pointer, PointerSix, Length}
@@ -25,17 +24,16 @@ use Rattle.siit_rules.specs.declared.rule.Rule.TheVariants.{IcmpCode4, IcmpType4
 use Rattle.siit_roles.specs.declared.settings.Settings.{Settings}
 use Rattle.siit_v4to6.specs.To6.{next_header_of}
 use Rattle.siit_device.specs.Addresses.{to4, to6}
-use Rattle.siit_device.specs.Arrival4.{is_error4, quoted_part4}
-use Rattle.siit_device.specs.Arrival6.{arrived_fragment, is_error6, quoted_part6}
-use Rattle.siit_device.specs.Backward.{error_by4, error_to_4, head4_for, new_body4, rest_to_4, upper_backward}
-use Rattle.siit_device.specs.Forward.{error_by6, error_to_6, is_error_fragment4, new_body6, rest_to_6, upper_forward}
+use Rattle.siit_device.specs.Arrival4.{quoted_part4}
+use Rattle.siit_device.specs.Arrival6.{is_error6, quoted_part6}
+use Rattle.siit_device.specs.Backward.{error_by4, error_to_4, new_body4, rest_to_4}
+use Rattle.siit_device.specs.Forward.{error_by6, error_to_6, is_error_fragment4, new_body6, rest_to_6}
 use Rattle.siit_device.specs.Rows.{is_by}
 use Rattle.siit_device.proofs.ErrorKinds.{Becomes, kinds6}
 use Rattle.siit_pair.specs.Across.{across, between}
-use Rattle.siit_pair.specs.Laws.{IsErrorAccepted, arriving}
 use Rattle.siit_pair.specs.Same.{error_backward, error_behind, error_forward, error_if4, error_if6, has_pointer4, has_pointer6, is_mapped4, is_mapped6, is_same_error, is_the_message, is_translated4, is_translated6, unsummed, unsummed_error4, unsummed_error6}
 use Rattle.siit_pair.proofs.Conditions4.{HasQuote4}
-use Rattle.siit_pair.proofs.Conditions6.{HasQuote6, HasUpper6, has-quote6, has-upper6}
+use Rattle.siit_pair.proofs.Conditions6.{HasQuote6, HasUpper6}
 use Rattle.siit_pair.proofs.Payloads.{equal-bytes}
 
 -- LENGTHS

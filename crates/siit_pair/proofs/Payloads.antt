@@ -1,11 +1,11 @@
 -- The payload of a datagram behind two devices: of TCP and UDP, and of protocols that the devices don't know.
-use Rattle.std.proofs.Common.{◌≡◌, ℕ, ◌+◌, ◌%◌, ◌^◌, ◌<◌, ◌≤◌, List, length, Bool, true, false, not, ◌&&◌, ◌||◌, ◌==◌, nat_lt, if◌then◌else◌, Some, None, ◌∙◌, ap, sym, subst, refl, arith, eq-eqb, ne_eqb, lt-ltb}
+use Rattle.std.proofs.Common.{◌≡◌, ℕ, ◌+◌, ◌%◌, ◌^◌, ◌<◌, ◌≤◌, List, length, Bool, true, false, not, ◌&&◌, ◌==◌, if◌then◌else◌, Some, ◌∙◌, ap, sym, subst, refl, arith, eq-eqb, ne_eqb, lt-ltb}
 use Rattle.std.specs.Str.{bytes_eq}
-use Rattle.std.proofs.lemmas.Bool.{cond-true, cond-false, cond_both, and_from, and_left, and_right, eqb-true, eqb-false}
+use Rattle.std.proofs.lemmas.Bool.{cond-true, cond-false, cond_both, and_from, eqb-true, eqb-false}
 use Rattle.std.proofs.lemmas.Slice.Eq.{bytes_eq-Decides}
 use Rattle.siit_model.specs.Bytes.{field16, with_field16}
 use Rattle.siit_model.specs.Checksum.{checksum_of, moved, moved_udp, without_zero, pseudo4, pseudo6, residue}
-use Rattle.siit_model.specs.Fragments.{Common, Datagram, datagram4, whole_of}
+use Rattle.siit_model.specs.Fragments.{datagram4, whole_of}
 use Rattle.siit_model.specs.Ipv4.{Ipv4Packet, IsGoodIpv4}
 use Rattle.siit_model.specs.Upper.{has_field16}
 use Rattle.siit_checksum.proofs.Fields.{length-with_field16}
@@ -14,9 +14,9 @@ use Rattle.siit_quoted.proofs.Words.{field16-with_field16, with_field16-twice}
 use Rattle.siit_fragments.specs.Laws.{with_checksum}
 use Rattle.siit_fragments.proofs.Translated.{length-with_checksum}
 use Rattle.siit_roles.specs.declared.settings.Settings.{Settings}
-use Rattle.siit_v4to6.specs.To6.{common_to_6, next_header_of, udp_checksum6}
+use Rattle.siit_v4to6.specs.To6.{next_header_of, udp_checksum6}
 use Rattle.siit_device.specs.Addresses.{to4, to6}
-use Rattle.siit_device.specs.Forward.{head6_for, image6, is_error_fragment4, lacks_checksum, upper_forward}
+use Rattle.siit_device.specs.Forward.{is_error_fragment4, lacks_checksum}
 use Rattle.siit_cutting.specs.Laws.{HasAddresses6}
 use Rattle.siit_cutting.proofs.Upper4.{InRange4, tcp_to_4, udp_to_4, upper4-other, upper4-tcp, upper4-udp}
 use Rattle.siit_cutting.proofs.Upper6.{InRange6, no-error, tcp_to_6, udp_to_6, upper6-other, upper6-tcp, upper6-udp}

@@ -1,32 +1,29 @@
 -- The body of an ICMP error behind two devices: its quote, and its extension.
-use Rattle.std.proofs.Common.{◌≡◌, ◌⊎◌, inl, inr, ℕ, ◌+◌, ◌-◌, ◌*◌, ◌/◌, ◌^◌, ◌<◌, ◌≤◌, List, [], ◌∷◌, ◌++◌, length, take, drop, replicate, slice_index, max, Bool, true, false, ◌&&◌, ◌||◌, ◌==◌, nat_le, if◌then◌else◌, Option, Some, None, Result, Ok, Err, ok_or, ◌∙◌, ap, sym, subst, refl, arith, ⊎_elim, eq-eqb, ne_eqb}
+use Rattle.std.proofs.Common.{◌≡◌, ◌⊎◌, inl, inr, ℕ, ◌+◌, ◌-◌, ◌*◌, ◌/◌, ◌^◌, ◌<◌, ◌≤◌, List, ◌++◌, length, take, drop, replicate, slice_index, Bool, true, false, ◌&&◌, ◌||◌, ◌==◌, nat_le, if◌then◌else◌, Option, Some, None, Result, Ok, Err, ok_or, ◌∙◌, ap, sym, subst, refl, arith, eq-eqb, ne_eqb}
 use Rattle.std.proofs.Math.Seq.{drop-append_seam}
 use Rattle.std.proofs.lemmas.Bool.Decides.{nat_tests}
-use Rattle.std.proofs.lemmas.Bool.{and_parts, cond-false, cond-true, eqb-true, eqb-false, leb-true}
+use Rattle.std.proofs.lemmas.Bool.{and_parts, cond-false, cond-true, eqb-true, leb-true}
 use Rattle.std.proofs.lemmas.List.{get_or-take, get_or_append_left, length-append, length-replicate, length-take}
-use Rattle.siit_model.specs.Bytes.{AreBytes, field8, field16, field32, field128}
-use Rattle.siit_model.specs.Fragments.{common4, datagram4, whole_of}
-use Rattle.siit_model.specs.Ipv4.{Ipv4Packet, IsGoodIpv4, ipv4_fields, is_whole4}
-use Rattle.siit_model.specs.Ipv6.{Ipv6Packet, ipv6_bytes_as, ipv6_fields, ipv6_header}
+use Rattle.siit_model.specs.Bytes.{field8, field16, field32, field128}
+use Rattle.siit_model.specs.Ipv4.{Ipv4Packet, IsGoodIpv4, is_whole4}
+use Rattle.siit_model.specs.Ipv6.{Ipv6Packet, ipv6_bytes_as, ipv6_fields}
 use Rattle.siit_checksum.proofs.Digits.{sixteen-read}
 use Rattle.siit_icmp.specs.Errors.{is_error_kind4, is_error_kind6}
 use Rattle.siit_icmp.specs.Icmp.{icmp_to_4, icmp_to_6, is_echo_kind4, is_echo_kind6, echo_kind4, echo_kind6, new, problem_to_4, problem_to_6, unreachable_to_4, unreachable_to_6}
 use Rattle.siit_icmp.specs.declared.kinds.NewKind.{NewKind}
 use Rattle.siit_icmp.specs.declared.kinds.Rest.{Rest}
 use Rattle.siit_icmp.specs.declared.kinds.Rest.TheVariants.{Same, Zero, Mtu, Pointer, PointerSix, Length}
-use Rattle.siit_quoted.specs.Bodies.{Body, NewBody, carried_to_4, carried_to_6, joined, joined_to_4, joined_to_6, length_octet4, length_octet6, padded, padding, part_of, parted, room6}
+use Rattle.siit_quoted.specs.Bodies.{Body, NewBody, carried_to_4, carried_to_6, joined_to_4, joined_to_6, length_octet4, length_octet6, padded, padding, part_of, parted, room6}
 use Rattle.siit_quoted.specs.Errors.{body_to_4, body_to_6, part_to_4}
-use Rattle.siit_quoted.specs.Quoted.{QuotedIpv4, quoted4_fields}
+use Rattle.siit_quoted.specs.Quoted.{QuotedIpv4}
 use Rattle.siit_quoted.specs.Quotes.{quote_to_6, quoted_packet_to_6, sent_to_6, written_class}
-use Rattle.siit_quoted.specs.Refusals.{quote_refusal4, quote_refusal6}
 use Rattle.siit_quoted.specs.Returns.{BodiesComeBack, ExtensionsComeBack, HasBody4, HasBody6, body_of, come_back}
-use Rattle.siit_rules.specs.declared.rule.Family.TheVariants.{Four, Six}
+use Rattle.siit_rules.specs.declared.rule.Family.TheVariants.{Four}
 use Rattle.siit_rules.specs.declared.rule.Rule.{Rule}
 use Rattle.siit_rules.specs.declared.rule.Rule.TheVariants.{IcmpCode4, IcmpType4, IcmpCode6, IcmpType6}
 use Rattle.siit_roles.specs.declared.settings.Settings.{Settings}
 use Rattle.siit_v4to6.specs.To6.{next_header_of}
 use Rattle.siit_device.specs.Addresses.{to4, to6}
-use Rattle.siit_device.specs.Arrival4.{is_error4, quoted_part4}
 use Rattle.siit_device.specs.Arrival6.{quoted_part6}
 use Rattle.siit_device.specs.Backward.{new_body4, rest_to_4}
 use Rattle.siit_device.specs.Forward.{new_body6, rest_to_6}

@@ -1,5 +1,5 @@
 -- Prefixes and tables that are compared field by field.
-use Rattle.std.proofs.Common.{◌≡◌, ℕ, ◌<◌, ◌≤◌, List, [], ◌∷◌, length, get_or, Bool, true, false, ◌&&◌, ◌==◌, ◌∙◌, ap, refl, subst, arith}
+use Rattle.std.proofs.Common.{◌≡◌, ℕ, ◌<◌, ◌≤◌, List, [], ◌∷◌, length, get_or, Bool, true, ◌&&◌, ◌==◌, ◌∙◌, ap, refl, subst, arith}
 use Rattle.std.proofs.Math.Bridge.{le_prop}
 use Rattle.std.proofs.lemmas.Bool.{and_parts, and_from, eqb-true, eq-eqb}
 use Rattle.siit_addr.specs.declared.addr.Addr4.{Addr4}

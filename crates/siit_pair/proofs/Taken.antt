@@ -1,16 +1,15 @@
 -- What is known of packets that no rule drops.
-use Rattle.std.proofs.Common.{◌≡◌, ℕ, ◌≤◌, List, ◌∷◌, [], length, All, Bool, true, false, Option, Some, None, Result, Ok, Err, IsOk, ◌∙◌, ap, sym, subst, refl, get_or}
+use Rattle.std.proofs.Common.{◌≡◌, ℕ, ◌≤◌, List, None, Result, Ok, IsOk, ◌∙◌, ap, sym, subst, refl}
 use Rattle.siit_model.specs.Bytes.{AreBytes}
 use Rattle.siit_model.specs.Extensions.{Walked, Trouble, walk_of}
-use Rattle.siit_model.specs.Fragments.{Fragment, fragment4, fragment6, fragment_by, fragment_if}
-use Rattle.siit_model.specs.Ipv4.{Ipv4Packet, IsGoodIpv4, ipv4_fields}
+use Rattle.siit_model.specs.Fragments.{fragment_by, fragment_if}
+use Rattle.siit_model.specs.Ipv4.{Ipv4Packet, ipv4_fields}
 use Rattle.siit_model.specs.Ipv6.{Ipv6Packet, ipv6_bytes, ipv6_fields}
 use Rattle.siit_views.proofs.Read.{read_is_good4}
-use Rattle.siit_rules.specs.declared.rule.Rule.{Rule}
 use Rattle.siit_roles.specs.declared.settings.Settings.{Settings}
 use Rattle.siit_v6to4.specs.To4.{walk_in}
-use Rattle.siit_device.specs.Arrival6.{Arrived, is_error6}
-use Rattle.siit_device.specs.Rows.{first_of, or_rule}
+use Rattle.siit_device.specs.Arrival6.{Arrived}
+use Rattle.siit_device.specs.Rows.{first_of}
 use Rattle.siit_device.specs.Rules4.{address_rows4, bytes_rows4, first_rule4, header_rows4, packet_rule4, quote_rows4, size_rows4, upper_rows4}
 use Rattle.siit_device.specs.Rules6.{address_rows6, arrived_rule6, bytes_rows6, first_rule6, header_rows6, packet_rule6, quote_rows6, size_rows6, upper_rows6, walk_rows6, walked_rule6}
 use Rattle.siit_device.proofs.Rows.{neither}

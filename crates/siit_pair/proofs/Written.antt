@@ -1,13 +1,13 @@
 -- Packets between both devices are read as they were written.
-use Rattle.std.proofs.Common.{◌≡◌, ℕ, ◌+◌, ◌-◌, ◌*◌, ◌/◌, ◌^◌, ◌<◌, ◌≤◌, List, [], ◌∷◌, ◌++◌, length, take, drop, replicate, map, max, min, All, Bool, true, false, not, ◌&&◌, ◌||◌, ◌==◌, nat_le, if◌then◌else◌, Option, Some, None, Result, Ok, Err, ◌∙◌, ap, sym, subst, refl, arith}
-use Rattle.std.proofs.lemmas.Bool.{cond_both, cond-false, cond-true, and_parts, cases_Bool, leb-true}
+use Rattle.std.proofs.Common.{◌≡◌, ℕ, ◌+◌, ◌-◌, ◌*◌, ◌/◌, ◌^◌, ◌<◌, ◌≤◌, List, [], ◌++◌, length, take, drop, replicate, All, Bool, true, false, ◌&&◌, ◌||◌, ◌==◌, nat_le, if◌then◌else◌, Option, Some, None, Result, Ok, Err, ◌∙◌, ap, sym, subst, refl, arith}
+use Rattle.std.proofs.lemmas.Bool.{cond_both, cond-true, leb-true}
 use Rattle.std.proofs.lemmas.List.{length-append, length-replicate, length-take}
 use Rattle.std.proofs.lemmas.List.Elements.{All-cons, All-nil, All-map}
-use Rattle.siit_model.specs.Bytes.{field8, field16, part}
+use Rattle.siit_model.specs.Bytes.{field8}
 use Rattle.siit_model.specs.Checksum.{pseudo6}
 use Rattle.siit_model.specs.Extensions.{fragment_header}
-use Rattle.siit_model.specs.Fragments.{Common, Datagram, Fragment, datagram4, fields_of, fragment4, fragment_packet6}
-use Rattle.siit_model.specs.Ipv4.{Ipv4Packet, IsGoodIpv4, ipv4_fields}
+use Rattle.siit_model.specs.Fragments.{Common, Fragment, fields_of, fragment4, fragment_packet6}
+use Rattle.siit_model.specs.Ipv4.{Ipv4Packet, ipv4_fields}
 use Rattle.siit_model.specs.Ipv6.{Ipv6Packet, ipv6_bytes, ipv6_fields}
 use Rattle.siit_icmp.specs.Icmp.{icmp_to_6}
 use Rattle.siit_icmp.specs.declared.kinds.NewKind.{NewKind}
@@ -16,19 +16,18 @@ use Rattle.siit_icmp.specs.declared.kinds.Rest.TheVariants.{Same, Zero, Mtu, Poi
 use Rattle.siit_rules.specs.declared.rule.Rule.{Rule}
 use Rattle.siit_fragments.specs.Pieces.{blocks_of, piece_of, pieces_of}
 use Rattle.siit_fragments.proofs.Pieces.{All-pieces, piece-length}
-use Rattle.siit_quoted.specs.Bodies.{NewBody, carried_to_6, joined, joined_to_6, length_octet4, padded, padding, parted, room6}
-use Rattle.siit_quoted.specs.Errors.{body_to_6, error_moved}
+use Rattle.siit_quoted.specs.Bodies.{NewBody, carried_to_6, joined_to_6, length_octet4, padded, padding, parted, room6}
+use Rattle.siit_quoted.specs.Errors.{error_moved}
 use Rattle.siit_quoted.specs.Quoted.{quoted4_fields}
-use Rattle.siit_quoted.specs.Quotes.{quote_to_6, written_class}
+use Rattle.siit_quoted.specs.Quotes.{quote_to_6}
 use Rattle.siit_roles.specs.Limits.{IsWithinLimits}
 use Rattle.siit_roles.specs.declared.settings.Settings.{Settings}
-use Rattle.siit_v4to6.specs.Laws.{IsHeader6}
-use Rattle.siit_v4to6.specs.To6.{common_to_6, fragment_part, has_fragment_header, packet6}
+use Rattle.siit_v4to6.specs.To6.{fragment_part, has_fragment_header, packet6}
 use Rattle.siit_v4to6.proofs.Good.{part-length}
 use Rattle.siit_v4to6.proofs.Written.{fields-written}
 use Rattle.siit_device.specs.Addresses.{to6}
 use Rattle.siit_device.specs.Arrival4.{quoted_part4}
-use Rattle.siit_device.specs.Forward.{error_by6, error_to_6, head6_for, is_cut6, is_error_fragment4, new_body6, packets_to_6, rest_to_6, translated6, upper_forward}
+use Rattle.siit_device.specs.Forward.{error_by6, error_to_6, is_cut6, is_error_fragment4, new_body6, packets_to_6, rest_to_6, translated6, upper_forward}
 use Rattle.siit_arrival4.specs.Unruled.{IsUnruled}
 use Rattle.siit_cutting.specs.Laws.{HasAddresses6, IsTaken4}
 use Rattle.siit_cutting.proofs.Upper6.{upper6-length}
@@ -78,10 +77,8 @@ moved-most : (old new kind code : ℕ) (rest : List ℕ) (body : NewBody) (messa
     → length (error_moved old new kind code rest body message) ≤ 2351
 moved-most old new kind code rest body message four most = omega (arith, four, most, length-append rest body.bytes)
 
-error-by : (settings : Settings) (common : Common) (message : List ℕ) (r : Result NewKind Rule) → length message ≤ 65515
-    → length (error_by6 settings common message r) ≤ 65515
-error-by settings common message (Err rule) small = small
-error-by settings common message (Ok n) small =
+translated-by : (settings : Settings) (common : Common) (message : List ℕ) (n : NewKind) → length (error_by6 settings common message (Ok n)) ≤ 2351
+translated-by settings common message n =
     let body : NewBody = new_body6 settings n message in
     let pseudo : ℕ = pseudo6 (to6 settings common.source) (to6 settings common.destination) 58 (8 + length body.bytes) in
     let old = parted 4 (length_octet4 message) (drop 8 message) in
@@ -89,8 +86,19 @@ error-by settings common message (Ok n) small =
     let most : length body.bytes ≤ 2343 =
     body-most (carried_to_6 n.kind old.extension) n.kind old.extension
     (quote_to_6 (to6 settings quoted.source) (to6 settings quoted.destination) settings.tos_zero (quoted4_fields old.part)) refl in
-    above (length (error_moved 0 pseudo n.kind n.code (rest_to_6 settings n.rest body.octet message) body message))
-    (moved-most 0 pseudo n.kind n.code (rest_to_6 settings n.rest body.octet message) body message (rest-most settings n.rest body.octet message) most)
+    moved-most 0 pseudo n.kind n.code (rest_to_6 settings n.rest body.octet message) body message (rest-most settings n.rest body.octet message) most
+
+-- a translated error is short
+pub translated-most : (settings : Settings) (common : Common) (message : List ℕ) (n : NewKind) → icmp_to_6 (field8 message 0) (field8 message 1) ≡ Ok n
+    → length (error_to_6 settings common message) ≤ 2351
+unfolding error_to_6
+translated-most settings common message n is =
+    subst (λ r. length (error_by6 settings common message r) ≤ 2351) (sym is) (translated-by settings common message n)
+
+error-by : (settings : Settings) (common : Common) (message : List ℕ) (r : Result NewKind Rule) → length message ≤ 65515
+    → length (error_by6 settings common message r) ≤ 65515
+error-by settings common message (Err rule) small = small
+error-by settings common message (Ok n) small = above (length (error_by6 settings common message (Ok n))) (translated-by settings common message n)
   where
     above : (n : ℕ) → n ≤ 2351 → n ≤ 65515
     above n small = omega arith

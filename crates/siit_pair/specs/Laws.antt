@@ -4,7 +4,7 @@ use Rattle.std.specs.Prelude.{◌≡◌, ℕ, ◌^◌, ◌<◌, ◌≤◌, List,
 use Rattle.std.specs.List.{All, flat_map}
 use Rattle.siit_model.specs.Bytes.{AreBytes, field8}
 use Rattle.siit_model.specs.Fragments.{Datagram, common4, datagram4, whole_of, plain_packet6}
-use Rattle.siit_model.specs.Ipv4.{Ipv4Packet, IsGoodIpv4, ipv4_fields, is_whole4}
+use Rattle.siit_model.specs.Ipv4.{Ipv4Packet, IsGoodIpv4, ipv4_bytes, ipv4_fields, ipv4_of, is_whole4}
 use Rattle.siit_model.specs.Ipv6.{ipv6_bytes, ipv6_fields}
 use Rattle.siit_addr.specs.declared.addr.Prefix6.{Prefix6}
 use Rattle.siit_eamt.specs.declared.entry.Eam.{Eam}
@@ -107,6 +107,14 @@ FragmentsComeAcross = (first second : Settings) (d : Ipv4Packet) (entered : List
     → IsGoodIpv4 d → is_whole4 d ≡ true → AreReversible first.mapping d → HasAddresses6 first (datagram4 d).common
     → Covers4 d (map ipv4_fields entered) → PassesBoth first second entered between
     → ComesOut first second d between (flat_map (given_to_4 second) between)
+
+-- Each packet that comes out is read as it is written.
+abbrev pub PacketsBehindAreRead : Type 0
+PacketsBehindAreRead = (first second : Settings) (d : Ipv4Packet) (entered : List (List ℕ)) (between : List Numbered)
+    → first.mapping ≡ second.mapping → IsWithinLimits first → IsWithinLimits second
+    → IsGoodIpv4 d → is_whole4 d ≡ true → AreReversible first.mapping d → HasAddresses6 first (datagram4 d).common
+    → Covers4 d (map ipv4_fields entered) → PassesBoth first second entered between →
+    let out = flat_map (given_to_4 second) between in map ipv4_of (map ipv4_bytes out) ≡ map (λ packet. Some packet) out
 
 -- ICMP ERRORS
 

@@ -6,6 +6,7 @@ ghost use Rattle.siit_pair.specs.Laws.{
   ExtensionsComeAcross,
   FragmentsComeAcross,
   OneTableMapsAlike,
+  PacketsBehindAreRead,
   QuotesComeAcross,
 };
 
@@ -39,6 +40,15 @@ pub fn fragments_come_across()
     rules_leave6();
     cutting_commutes_to_6();
     cutting_commutes_to_4();
+}
+
+/// Each packet that comes out behind a pair is read as it is written. There is nothing to run.
+pub fn packets_behind_are_read()
+    ensures { PacketsBehindAreRead }
+{
+    rules_leave4();
+    rules_leave6();
+    cutting_commutes_to_6();
 }
 
 /// The quote of an ICMP error comes out of a pair with its own addresses, cut and padded as the law says (RFC 4884).

@@ -14,7 +14,7 @@ mod worked;
 pub use datagram::same;
 pub use laws::{
     addresses_come_back, datagrams_come_across, extensions_come_across, fragments_come_across,
-    quotes_come_across,
+    packets_behind_are_read, quotes_come_across,
 };
 pub use pair::is_pair;
 pub use worked::worked_datagrams;

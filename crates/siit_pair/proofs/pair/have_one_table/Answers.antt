@@ -1,4 +1,4 @@
-use Rattle.std.proofs.Common.{◌≡◌, true, ◌∙◌, ap, sym}
+use Rattle.std.proofs.Common.{◌∙◌, ap, sym}
 use lib.Pointwise.{pointwise}
 use Rattle.siit_pair.proofs.Tables.{same_entry, told6, told-entries, self-entries}
 use Rattle.siit_pair.proofs.pair.have_one_table.Goals as goal

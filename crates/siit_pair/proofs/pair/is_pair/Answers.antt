@@ -1,4 +1,4 @@
-use Rattle.std.proofs.Common.{◌≡◌, List, [], ◌∷◌, get_or, ◌∙◌, ap, sym, subst}
+use Rattle.std.proofs.Common.{◌≡◌, List, [], ◌∷◌, get_or, ◌∙◌, sym, subst}
 use Rattle.siit_roles.specs.declared.settings.Settings.{Settings}
 use Rattle.siit_pair.specs.Pairs.{HaveOneTable, IsPair}
 use Rattle.siit_pair.proofs.Tables.{two}
