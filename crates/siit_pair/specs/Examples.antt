@@ -1,5 +1,5 @@
 -- Datagrams that a pair carries from end to end, as worked by hand, and what breaks one line of the promise alone.
-use Rattle.std.specs.Prelude.{◌≡◌, ℕ, ◌+◌, ◌*◌, ◌^◌, List, [], ◌∷◌, ◌++◌, take, replicate, Bool, true, false, None}
+use Rattle.std.specs.Prelude.{◌≡◌, ℕ, ◌+◌, ◌*◌, ◌^◌, List, [], ◌∷◌, ◌++◌, take, replicate, Bool, true, false, is_some, None}
 use Rattle.std.specs.List.{flat_map}
 use Rattle.std.proofs.Common.{lit≤}
 use Rattle.siit_model.specs.Bytes.{bytes32, with_field16}
@@ -12,7 +12,7 @@ use Rattle.siit_map.specs.Mapping.{table}
 use Rattle.siit_roles.specs.declared.role.Role.{Role}
 use Rattle.siit_roles.specs.declared.role.Role.TheVariants.{Border, Edge}
 use Rattle.siit_roles.specs.declared.settings.Settings.{Settings}
-use Rattle.siit_pair.specs.Same.{error_behind, is_same_from, is_same_from_an_end, is_whole_packet}
+use Rattle.siit_pair.specs.Same.{error_backward, error_behind, error_forward, is_same_from, is_same_from_an_end, is_whole_packet}
 
 -- THE PAIR
 
@@ -147,6 +147,7 @@ pub record TransportExamples : Type 0 where
   pub udp_short : carries 17 (take 7 (datagram 12 0x1234 [])) (take 7 (datagram 12 0x1234 [])) ≡ false
   -- its checksum is the last field of the shortest datagram
   pub udp_cut : carries 17 (datagram 8 0x1200 []) (take 7 (datagram 8 0x1200 [])) ≡ false
+  pub udp_grown : carries 17 (take 7 (datagram 8 0x1200 [])) (datagram 8 0x1200 []) ≡ false
   pub other : carries 253 abcd abcd ≡ true
   pub other_byte : carries 253 abcd (words (0x61626365 ∷ [])) ≡ false
 
@@ -194,9 +195,9 @@ come_back = 0x45000028 ∷ 0x00000000 ∷ 0x3f11a9b4 ∷ []
 abbrev error : (code rest : ℕ) → (first_words : List ℕ) → List ℕ
 error code rest first_words = unreachable code rest (quoted first_words (dotted 8 8 8 8) 0x00351000)
 
--- from 8.8.8.8 to 10.0.0.1, which isn't global and has no entry
-abbrev unmapped : List ℕ
-unmapped = words (0x45000028 ∷ 0x00000000 ∷ 0x3f110000 ∷ dotted 8 8 8 8 ∷ dotted 10 0 0 1 ∷ 0x00351000 ∷ 0x00141111 ∷ [])
+-- between two addresses; 10.0.0.1 isn't global and has no entry
+abbrev between : (source destination : ℕ) → List ℕ
+between source destination = words (0x45000028 ∷ 0x00000000 ∷ 0x3f110000 ∷ source ∷ destination ∷ 0x00351000 ∷ 0x00141111 ∷ [])
 
 -- an ICMP error that is quoted itself
 abbrev nested : List ℕ
@@ -209,6 +210,18 @@ authenticated = words (0x45000028 ∷ 0x00002000 ∷ 0x3f330000 ∷ 0xc0000201 �
 -- a parameter problem that points at a byte of the quoted header
 abbrev problem : (place : ℕ) → (first_words : List ℕ) → List ℕ
 problem place first_words = message (12 ∷ 0 ∷ 0 ∷ 0 ∷ place ∷ 0 ∷ 0 ∷ 0 ∷ quoted first_words (dotted 8 8 8 8) 0x00351000)
+
+-- 192.0.2.1 and 8.8.8.8 between both devices
+abbrev server6 : List ℕ
+server6 = 0x20010db8 ∷ 0x64640000 ∷ 0 ∷ 1 ∷ []
+
+abbrev host6 : List ℕ
+host6 = 0x0064ff9b ∷ 0 ∷ 0 ∷ 0x08080808 ∷ []
+
+-- an ICMPv6 parameter problem that points at a byte of the quoted header
+abbrev problem6 : (place : ℕ) → (source destination : List ℕ) → List ℕ
+problem6 place source destination =
+    words (0x04000000 ∷ place ∷ 0x60000000 ∷ 0x0014113f ∷ []) ++ words source ++ words destination ++ words (0x00351000 ∷ 0x001440f4 ∷ [])
 
 -- a time exceeded with the length octet 32: a quoted segment, zeros to 128 bytes, and an extension of 12
 abbrev exceeded : (first_words : List ℕ) → List ℕ
@@ -245,11 +258,20 @@ pub record ErrorExamples : Type 0 where
   -- it points at the protocol, and at the identification, which IPv6 hasn't
   pub pointer : carries 1 (problem 9 sent) (problem 9 come_back) ≡ true
   pub no_pointer : error_behind border edge (problem 4 sent) ≡ None
-  -- no row for the code; a quote that either device refuses; one whose address isn't mapped
+  -- no row for the code; a quote that is refused, at the second device alone too
   pub no_row : error_behind border edge (error 14 0 sent) ≡ None
-  pub refused : error_behind border edge (unreachable 3 0 nested) ≡ None
+  pub refused : error_forward border (unreachable 3 0 nested) ≡ None
   pub refused_behind : error_behind border edge (unreachable 3 0 authenticated) ≡ None
-  pub without_mapping : error_behind border edge (unreachable 3 0 unmapped) ≡ None
+
+-- addresses of a quote that aren't mapped, and rows that only another device's error could lack
+pub record UnmappedExamples : Type 0 where
+  pub both : is_some (error_forward border (unreachable 3 0 (between (dotted 192 0 2 1) (dotted 8 8 8 8)))) ≡ true
+  pub source : error_forward border (unreachable 3 0 (between (dotted 10 0 0 1) (dotted 8 8 8 8))) ≡ None
+  pub destination : error_forward border (unreachable 3 0 (between (dotted 8 8 8 8) (dotted 10 0 0 1))) ≡ None
+  pub both6 : is_some (error_backward edge (problem6 0 server6 host6)) ≡ true
+  pub pointer6 : error_backward edge (problem6 2 server6 host6) ≡ None
+  pub source6 : error_backward edge (problem6 0 (0x20010db8 ∷ 0 ∷ 0 ∷ 1 ∷ []) host6) ≡ None
+  pub destination6 : error_backward edge (problem6 0 server6 (0x20010db8 ∷ 0 ∷ 0 ∷ 1 ∷ [])) ≡ None
 
 pub record ExtensionExamples : Type 0 where
   pub extended : carries 1 (exceeded (0x45000028 ∷ 0x00014000 ∷ 0x400668be ∷ [])) (exceeded (0x45000028 ∷ 0x00000000 ∷ 0x4006a8bf ∷ [])) ≡ true
