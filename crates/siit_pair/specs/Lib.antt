@@ -3,3 +3,4 @@ pub mod Across
 pub mod Same
 pub mod Laws
 pub mod Examples
+pub mod PairExamples

@@ -16,7 +16,7 @@ pub use laws::{
     addresses_come_back, datagrams_come_across, extensions_come_across, fragments_come_across,
     packets_behind_are_read, quotes_come_across,
 };
-pub use pair::is_pair;
+pub use pair::{is_pair, worked_pairs};
 pub use worked::worked_datagrams;
 
 #[cfg(test)]

@@ -1,5 +1,6 @@
 //! Which settings are those of a pair.
 ghost use Rattle.std.specs.Prelude.{◌≡◌, ◌↔◌, IsTrue};
+ghost use Rattle.siit_pair.specs.PairExamples.{AcrossExamples, PairExamples};
 ghost use Rattle.siit_pair.specs.Pairs.{HaveOneTable, IsPair};
 
 use siit_roles::{ChainSettings, Role, Settings};
@@ -26,3 +27,10 @@ fn have_one_table(border: &Settings, edge: &Settings) -> bool
     border.mapping.prefix() == edge.mapping.prefix()
         && border.mapping.entries() == edge.mapping.entries()
 }
+
+/// Settings that are a pair's and such as aren't, and a datagram on its way through, as worked by hand. There is
+/// nothing to run.
+pub fn worked_pairs()
+    ensures pairs { PairExamples }
+    ensures across { AcrossExamples }
+{}
