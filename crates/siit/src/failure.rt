@@ -91,3 +91,41 @@ fn write_error<W: fmt::Write>(
         (kind, _) => write!(f, "{kind}"),
     }
 }
+
+#[cfg(test)]
+mod tests {
+    use super::*;
+    use std::test::Fail;
+
+    fn line(alloc: Global, action: Action, cause: Cause) -> Result<String, AllocError> {
+        match Failure::new(alloc, action, "a.pcap", cause) {
+            Some(failure) => format!(in alloc; "{failure}"),
+            None => Err(AllocError),
+        }
+    }
+
+    // The text of each kind of failure.
+    #[test]
+    fn failures_are_said_in_a_line(rt: HostRuntime) -> Result<(), Fail> {
+        let alloc = rt.alloc();
+        let missing = Cause::Error(io::Error::from(ErrorKind::NotFound));
+        let text = line(alloc, Action::Reading, missing)?;
+        assert_eq!(rt; text.as_str(), "reading a.pcap: no such file");
+        let no_folder = Cause::Error(io::Error::from(ErrorKind::NotFound));
+        let text = line(alloc, Action::Making, no_folder)?;
+        assert_eq!(rt; text.as_str(), "making a.pcap: no such folder");
+        let full = Cause::Error(io::Error::from(ErrorKind::StorageFull));
+        let text = line(alloc, Action::Writing, full)?;
+        assert_eq!(rt; text.as_str(), "writing a.pcap: no space left");
+        let folder = Cause::Error(io::Error::from(ErrorKind::IsADirectory));
+        let text = line(alloc, Action::Reading, folder)?;
+        assert_eq!(rt; text.as_str(), "reading a.pcap: is a directory");
+        let twin = Cause::IsAlso(String::from_str(alloc, "b.pcap")?);
+        let text = line(alloc, Action::Making, twin)?;
+        assert_eq!(rt;
+            text.as_str(),
+            "making a.pcap: it is the same file as b.pcap"
+        );
+        Ok(())
+    }
+}
