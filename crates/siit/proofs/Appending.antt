@@ -3,8 +3,8 @@ use Rattle.std.proofs.Common.{◌≡◌, ℕ, ◌+◌, ◌-◌, ◌≤◌, List,
 use Rattle.std.proofs.lemmas.Grind.{common_steps}
 use Rattle.std.proofs.lemmas.List.{take_all, take_rest}
 use Rattle.std.proofs.Math.Seq.{take-add}
-use Rattle.std.specs.Io.KnownBytes.{append_known, Appends, Keeps}
-use Rattle.siit.specs.Appending.{appended, AppendsPart}
+use Rattle.std.specs.Io.KnownBytes.{Appends, Keeps}
+use Rattle.siit.specs.Appending.{AppendsPart}
 
 pub appends_none : (a : Option (List ℕ)) → Appends a a []
 appends_none None = tt

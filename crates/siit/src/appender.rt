@@ -1,5 +1,5 @@
 //! A file that is appended to. It stays open, and bytes that come in small pieces are gathered.
-ghost use Rattle.std.specs.Prelude.{◌≡◌, ◌⊎◌, ◌≤◌, [], All, IfOk, IsErr, IsSome, None, OnErr, OnOk, length, min, take};
+ghost use Rattle.std.specs.Prelude.{◌≡◌, ◌⊎◌, ◌≤◌, [], All, IfOk, IsErr, IsSome, None, OnErr, OnOk, length, min, take, true};
 ghost use Rattle.std.specs.Io.KnownBytes.{Appends, Keeps};
 ghost use Rattle.siit.specs.Appending.{appended, AppendsPart};
 
@@ -48,7 +48,7 @@ impl<F: Write> Appender<F> {
         ensures ok { OnOk result (Appends (F.contents self.old.file) (F.contents self.new.file) self.old.gathered.items) }
         ensures err { OnErr result (AppendsPart (F.contents self.old.file) (F.contents self.new.file) self.old.gathered.items) }
         ensures lost { OnErr result (IsSome self.new.lost) }
-        ensures kept { OnOk result (self.new.lost ≡ self.old.lost) }
+        ensures whole { OnOk result (self.new.lost ≡ None) }
         ensures closed { IsSome self.old.lost → IsErr result }
         ensures frozen { IsSome self.old.lost → Keeps (F.contents self.old.file) (F.contents self.new.file) }
     {
@@ -103,7 +103,8 @@ impl<F: Write> Appender<F> {
 /// Writes what was gathered for each file, and answers whether it was all written.
 #[tactic(auto, using(std::proofs::lemmas::List::take_all))]
 pub(crate) fn flush_all<F: Write>(appenders: &mut [Appender<F>]) -> bool
-    ensures { All (λ appender. appender.gathered.items ≡ []) appenders.new }
+    ensures none { All (λ appender. appender.gathered.items ≡ []) appenders.new }
+    ensures whole { result ≡ true → All (λ appender. appender.lost ≡ None) appenders.new }
 {
     let mut is_written = true;
     for appender in appenders {

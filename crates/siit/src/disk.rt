@@ -27,7 +27,8 @@ pub struct DiskFiles<'a, R: rt::Files> {
 }
 
 impl<'a, R: rt::Files> DiskFiles<'a, R> {
-    /// No file is open yet. Of these names, none is made anew that leads to the file of another one.
+    /// No file is open yet. Of these names, none is made anew that leads to the file of another one, or to the one that
+    /// standard output goes to.
     pub fn new(rt: R, alloc: Global, names: &'a [String]) -> Self
         ensures readers { result.readers.items ≡ [] }
         ensures appenders { result.appenders.items ≡ [] }
@@ -51,9 +52,11 @@ impl<'a, R: rt::Files> DiskFiles<'a, R> {
         self.failure.as_ref()
     }
 
-    /// Writes the bytes that were gathered. A program calls it before it says that it succeeded.
+    /// Writes the bytes that were gathered, and fails where bytes of any file were lost, now or before. A program calls
+    /// it before it says that it succeeded.
     pub fn flush(&mut self) -> Result<(), Failed>
         ensures written { All (λ a. a.gathered.items ≡ []) self.new.appenders.items }
+        ensures whole { OnOk result (All (λ a. a.lost ≡ None) self.new.appenders.items) }
         ensures cause { OnErr result (Rose self.old.write_faults self.new.write_faults) }
         ensures reads { self.new.read_faults ≡ self.old.read_faults }
         ensures writes { self.old.write_faults ≤ self.new.write_faults }
@@ -103,7 +106,7 @@ impl<'a, R: rt::Files> DiskFiles<'a, R> {
         let appender = Appender::new(self.alloc, name, file)?;
         if let Some(id) = file_id(&appender.file.metadata()?) {
             if let Some(other) = other_name(&self.rt, id, name, self.names) {
-                return Err(Cause::IsAlso(other.clone()?));
+                return Err(Cause::IsAlso(String::from_str(self.alloc, other)?));
             }
             appender.file.set_len(0)?;
         }

@@ -6,6 +6,9 @@ use std::fs::Metadata;
 use std::os::unix::fs::MetadataExt;
 use std::{fs, rt};
 
+/// What is printed would overwrite what is appended to the same file.
+const STANDARD_OUTPUT: &str = "/dev/stdout";
+
 /// A regular file, which has the same inode on the same device under all its names.
 #[derive(Clone, Copy, PartialEq, Eq)]
 pub(crate) struct FileId {
@@ -26,14 +29,20 @@ pub(crate) fn file_id(metadata: &Metadata) -> Option<FileId>
     })
 }
 
-/// The first of the other names that leads to this file too, by links or by another spelling.
+/// What leads to this file too: standard output, or the first of the other names, by a link or another spelling.
 pub(crate) fn other_name<'a, R: rt::Files>(
     rt: &R,
     id: FileId,
     name: &str,
     names: &'a [String],
-) -> Option<&'a String> {
-    names.iter().find(|other| other.as_str() != name && leads_to(rt, other.as_str(), id))
+) -> Option<&'a str> {
+    if leads_to(rt, STANDARD_OUTPUT, id) {
+        return Some("standard output");
+    }
+    names
+        .iter()
+        .map(|other| other.as_str())
+        .find(|other| *other != name && leads_to(rt, other, id))
 }
 
 // Where the system doesn't tell what a name leads to, opening it fails too.

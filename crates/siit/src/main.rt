@@ -10,7 +10,7 @@ mod own_words;
 mod reader;
 
 ghost use Rattle.siit_top.specs.Texts.{status_code};
-ghost use Rattle.std.specs.Prelude.{◌≡◌, ◌≢◌, ◌⊎◌, ◌≤◌, [], All, IfErr, OnErr, OnOk};
+ghost use Rattle.std.specs.Prelude.{◌≡◌, ◌≢◌, ◌⊎◌, ◌≤◌, [], All, IfErr, None, OnErr, OnOk};
 
 use crate::disk::DiskFiles;
 use crate::failure::{Action, Cause, Failure};
@@ -84,14 +84,16 @@ fn run_command<R: Runtime + AllocGlobal>(rt: &R, words: &[String]) -> u8
     }
 }
 
-/// Does what the words ask over these files. Afterwards no byte that was appended waits to be written.
+/// Does what the words ask over these files. Afterwards no byte that was appended waits to be written, and after `Ok`
+/// none was lost.
 fn run_over<R: rt::Files>(
     alloc: Global,
     words: &[String],
     files: &mut DiskFiles<'_, R>,
     out: &mut Vec<u8>,
 ) -> Status
-    ensures { All (λ a. a.gathered.items ≡ []) files.new.appenders.items }
+    ensures written { All (λ a. a.gathered.items ≡ []) files.new.appenders.items }
+    ensures whole { result ≡ Status.Ok → All (λ a. a.lost ≡ None) files.new.appenders.items }
 {
     let status = siit_main(alloc, words, files, &mut Counter::new(), out);
     ended(status, files.flush())
