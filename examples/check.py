@@ -1,8 +1,8 @@
 #!/usr/bin/env python3
 """Compares what the examples expect with expected.py, and with the program as `rt try` builds it without a proof. Leaves no file behind.
 
-The transcript of a folder, expected.txt, has `$ ./siit WORDS`, the line that is printed, and `status N` where that isn't 0. A capture
-that a run writes to out.pcap has to be the folder's expected.pcap. expected.py judges no faulty configuration, and reads none at all before
+The transcript of a folder, expected.txt, has `$ ./siit WORDS`, the line that is printed, and `status N` where that isn't 0. What a run
+writes to a file whose name begins with out, as out.pcap, has to be the folder's file of that name with expected in its place. expected.py judges no faulty configuration and no faulty words, and reads no configuration before
 Python 3.11. Without rt the program isn't asked.
 """
 import importlib.util
@@ -27,19 +27,23 @@ class Case:
     def __init__(self, folder, words):
         self.folder, self.words, self.line, self.status = folder, words, "", 0
 
-    def words_with(self, out):
-        """The words, with whole paths and with another name for out.pcap or out.bin."""
-        return [str(out if word in ("out.pcap", "out.bin") else TOP / word if word.startswith("examples/") else word) for word in self.words]
+    def outputs(self):
+        return [word for word in self.words if re.match(r"out[._]", word)]
 
-    def differences(self, line, status, out):
+    def words_with(self, work):
+        """The words, with whole paths, and with the outputs in a folder."""
+        return [str(work / word if word in self.outputs() else TOP / word if word.startswith("examples/") else word) for word in self.words]
+
+    def differences(self, line, status, work):
         if line != self.line:
             yield f"printed {line!r}, expected {self.line!r}"
         if status != self.status:
             yield f"status {status}, expected {self.status}"
-        whole = {"wkp": "expected.pcap", "dns64": "expected.bin"}.get(self.words[0])
-        is_written = whole is not None and self.status == 0
-        if out.exists() != is_written or is_written and out.read_bytes() != (self.folder / whole).read_bytes():
-            yield "the output isn't as expected"
+        for name in self.outputs():
+            out, whole = work / name, self.folder / name.replace("out", "expected", 1)
+            is_written = self.status == 0
+            if out.exists() != is_written or is_written and out.read_bytes() != whole.read_bytes():
+                yield f"{name} isn't as expected"
 
 
 def read_cases():
@@ -57,16 +61,22 @@ def read_cases():
 
 def is_for_script(case):
     has_toml = importlib.util.find_spec("tomllib") is not None
-    return case.words[0] == "wkp" or has_toml and not case.line.startswith("siit: bad config")
+    return case.words[0] == "wkp" or has_toml and not case.line.startswith(("siit: bad config", "siit: bad words"))
 
 
-def by_script(case, out):
+def by_script(case, work):
     """The line of expected.py and the status that goes with it."""
-    command, *words = case.words_with(out)
-    line = {"wkp": expected.wkp, "map": expected.map_address, "discover": dns_expected.discover_line, "dns64": dns_expected.dns64_line}[command](*words)
+    command, *words = case.words_with(work)
+    line = {
+        "run": expected.run,
+        "wkp": expected.wkp,
+        "map": expected.map_address,
+        "discover": dns_expected.discover_line,
+        "dns64": dns_expected.dns64_line,
+    }[command](*words)
     if line.startswith("siit: bad message: "):
         return line + "\n", 9
-    return line + "\n", {"siit: no device": 10, "siit: bad capture: left at 0: NotBuilt": 6}.get(line, 0)
+    return line + "\n", {"siit: no device": 10}.get(line, 0)
 
 
 def by_program(cases, work):
@@ -75,7 +85,8 @@ def by_program(cases, work):
     folder.mkdir()
     for number, case in enumerate(cases):
         (folder / f"{number:02}").touch()
-        (folder / f"{number:02}.args").write_text("\n".join(case.words_with(work / f"{number:02}.pcap")) + "\n")
+        (work / f"{number:02}").mkdir()
+        (folder / f"{number:02}.args").write_text("\n".join(case.words_with(work / f"{number:02}")) + "\n")
     run = subprocess.run(
         ["rt", "try", "--cases", str(folder)],
         cwd=TOP / "crates/siit",
@@ -94,21 +105,22 @@ def main():
     cases = read_cases()
     failed = False
 
-    def compare(who, case, answer, out):
+    def compare(who, case, answer, work):
         nonlocal failed
-        for difference in case.differences(*answer, out):
+        for difference in case.differences(*answer, work):
             print(f"examples: {who}: siit {' '.join(case.words)}: {difference}")
             failed = True
 
     with tempfile.TemporaryDirectory() as name:
         work = Path(name)
-        for case in filter(is_for_script, cases):
-            out = work / "out.pcap"
-            compare("expected.py", case, by_script(case, out), out)
-            out.unlink(missing_ok=True)
+        for number, case in enumerate(cases):
+            if is_for_script(case):
+                own = work / f"script{number:02}"
+                own.mkdir()
+                compare("expected.py", case, by_script(case, own), own)
         if shutil.which("rt"):
             for number, answer in enumerate(by_program(cases, work)):
-                compare("the program", cases[number], answer, work / f"{number:02}.pcap")
+                compare("the program", cases[number], answer, work / f"{number:02}")
     if failed:
         sys.exit(1)
     print(f"examples: {len(cases)} commands answer as expected")

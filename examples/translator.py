@@ -806,7 +806,8 @@ def read(name):
         return file.read()
 
 
-def main(words):
+def answer(words):
+    """Writes the outputs of a command, and tells the end line."""
     if words[0] == 'wkp':
         run = Run(4, [Device(WKP)])
         last = run.all(read(words[1]), b'')
@@ -821,8 +822,8 @@ def main(words):
     for name, data in names.items():
         with open(name, 'wb') as file:
             file.write(data)
-    sys.stdout.write(last)
+    return last
 
 
 if __name__ == '__main__':
-    main(sys.argv[1:])
+    sys.stdout.write(answer(sys.argv[1:]))

@@ -1,6 +1,9 @@
+pub mod Accepted
 pub mod Boundary
 pub mod Documents
 pub mod KeyLaws
+pub mod Options
 pub mod Prefixes
 pub mod Steps
 pub mod TextPairs
+pub mod TextRanges

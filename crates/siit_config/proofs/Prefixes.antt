@@ -1,5 +1,5 @@
 -- Prefixes that are accepted for embedding.
-use Rattle.std.proofs.Common.{◌≡◌, Bool, true, false, not, ◌&&◌, if◌then◌else◌, Option, Some, None, Result, Ok, Err, IfOk, refl, ap}
+use Rattle.std.proofs.Common.{◌≡◌, Bool, true, false, not, ◌&&◌, if◌then◌else◌, Some, None, Result, Ok, Err, IfOk, refl, ap}
 use Rattle.std.specs.Result.{result_ok, result_err}
 
 -- one of three faults where one of three tests fails

@@ -3,4 +3,5 @@ pub mod Faults
 pub mod Keys
 pub mod Devices
 pub mod Config
+pub mod Laws
 pub mod Examples

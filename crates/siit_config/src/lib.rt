@@ -8,6 +8,7 @@ mod device_keys;
 mod examples;
 mod fault;
 mod keys;
+mod laws;
 mod names;
 mod pool;
 mod table;
@@ -16,6 +17,9 @@ mod unknown;
 pub use chain::read_config;
 pub use examples::configuration_examples;
 pub use fault::ConfigFault;
+pub use laws::{
+    accepted_chains_are_good, symmetric_addresses_come_back, symmetric_tables_are_disjoint,
+};
 pub use names::embedding_of;
 
 #[cfg(test)]

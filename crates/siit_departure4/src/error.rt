@@ -20,7 +20,7 @@ use siit_word::{get16, put16};
 
 /// Makes the ICMPv6 error that stands from `at` on, in a packet between these addresses, the ICMPv4 error. What stands
 /// before it moves. Its checksum is moved by what differs, so that a wrong one stays wrong by as much (RFC 1624).
-pub(crate) fn new_error(
+pub fn new_error(
     settings: &Settings,
     buf: &mut PacketBuf,
     at: usize,

@@ -11,3 +11,4 @@ mod source;
 mod upper;
 
 pub use departure::{Sent4, depart4};
+pub use error::new_error;

@@ -12,3 +12,4 @@ mod rest;
 mod upper;
 
 pub use departure::depart6;
+pub use message::translate_message;

@@ -40,7 +40,7 @@ struct Draft {
 }
 
 /// Makes the buffer hold the ICMPv6 error for the ICMPv4 error that stands from `at` on. What stands before it is gone.
-pub(crate) fn translate_message(
+pub fn translate_message(
     settings: &Settings,
     buf: &mut PacketBuf,
     at: usize,

@@ -1,5 +1,5 @@
 -- What follows of a run that keeps its promise.
-use Rattle.std.proofs.Common.{◌≡◌, ◌⊎◌, ℕ, ◌≤◌, ◌<◌, List, length, Bool, true, false, Option, Some, None, IfSome, [], ◌∷◌, option_map, option_to_list, is_some, inl, inr, refl, ap, sym, subst, ◌∙◌, arith, IsTrue}
+use Rattle.std.proofs.Common.{◌≡◌, ◌⊎◌, ℕ, ◌≤◌, ◌<◌, List, ◌++◌, length, Bool, true, false, Option, Some, None, IfSome, [], ◌∷◌, option_map, option_to_list, is_some, inl, inr, refl, ap, sym, subst, ◌∙◌, arith, IsTrue}
 use Rattle.std.specs.Prelude.{if◌then◌else◌, nat_lt}
 use Rattle.std.proofs.lemmas.Bool.{lt-ltb}
 use Rattle.std.proofs.lemmas.Bool.Decides.{nat_tests}
@@ -9,46 +9,132 @@ use Rattle.siit_discovery.specs.Discovery.{found}
 use Rattle.siit_addr.specs.declared.addr.Prefix6.{Prefix6}
 use Rattle.siit_dns64.specs.Dns64.{dns64}
 use Rattle.siit_word.specs.Files.{held, FilesMeaning}
+use Rattle.siit_chain.specs.Outputs.{some_name}
+use Rattle.siit_chain.specs.declared.origin.End.TheVariants as ends
+use Rattle.siit_command.specs.Reading.{WasRead}
+use Rattle.siit_config.specs.declared.fault.ConfigFault.{ConfigFault}
+use Rattle.siit_network.specs.Crossings.{Crossing, HasWritten, IsCrossed, IsTold}
+use Rattle.siit_run.specs.Runs.{Course, finished, stopped}
+use Rattle.siit_running.specs.Inputs.{AreTold}
+use Rattle.siit_top.specs.Carried.{captures_named, CarriedAnswer, CarriedSays, IsDone, IsWhole}
+use Rattle.siit_top.specs.CarryRun as carrying
 use Rattle.siit_top.specs.DiscoverRun as discovery
 use Rattle.siit_top.specs.Dns64Run as dns
 use Rattle.siit_top.specs.MapRun.{decision, decision_by, too_long, IsLongConfiguration, IsReadAs, MapAnswer, Says}
-use Rattle.siit_top.specs.PlainCapture.{records_of}
-use Rattle.siit_top.specs.Promises.{Decided, IsComplete, Promise}
+use Rattle.siit_top.specs.Promises.{reads_of, Decided, IsComplete, Promise}
 use Rattle.siit_top.specs.Runs.{AllTold, Run}
-use Rattle.siit_top.specs.WkpRun.{judgement, not_built, WkpAnswer}
-use Rattle.siit_top.specs.Words.{Command, discover, map_address, messages_of, synthesis, wkp, Messages}
+use Rattle.siit_top.specs.WkpRun.{wkp_crossing}
+use Rattle.siit_top.specs.Words.{carry_run, Command, discover, map_address, messages_of, synthesis, wkp, Messages, RunFiles}
 use Rattle.siit_top.specs.declared.status.Status.{Status}
 use Rattle.siit_top.specs.declared.status.Status.TheVariants.{Ok, BadWords, BadConfig, ReadFault, WriteFault, BadCapture, BadMessage, NoMemory, TooLong, NoDevice}
 use Rattle.siit_top.proofs.Dns64Reads.{first_long_held}
 
-judged_within : (bytes : List ℕ) (b : Bool) → length bytes ≤ 4294967296 → is_some (records_of bytes) ≡ b → judgement bytes ≡ (if b then Ok else not_built)
-judged_within bytes b within is =
-    let short : nat_lt 4294967296 (length bytes) ≡ false = grind (arith, nat_tests) in
-    ap (λ x. if x then TooLong 1 else if is_some (records_of bytes) then Ok else not_built) short
-    ∙ ap (λ x. if x then Ok else not_built) is
-
-judged_long : (bytes : List ℕ) → 4294967296 < length bytes → judgement bytes ≡ TooLong 1
-judged_long bytes lt =
-    ap (λ x. if x then TooLong 1 else if is_some (records_of bytes) then Ok else not_built) (lt-ltb 4294967296 (length bytes) lt)
-
 -- What was read is what the file holds.
-held_is : {file : Option (List ℕ)} {bytes : List ℕ} → file ≡ Some bytes → held file ≡ bytes
+pub held_is : {file : Option (List ℕ)} {bytes : List ℕ} → file ≡ Some bytes → held file ≡ bytes
 held_is is = ap held is
 
-wkp_decided : (input output : List ℕ) (run : Run) (s : Status) → run.status ≡ s → WkpAnswer input output run s → IsTrue (run.before.told input) → (s ≡ ReadFault → ⊥) → (s ≡ WriteFault → ⊥) → (run.status ≡ judgement (held (run.before.contents input))) ⊎ (run.status ≡ NoMemory)
-wkp_decided input output run Ok is a told no_read no_write =
-    inl (is ∙ sym (ap judgement (held_is (a.read.file told)) ∙ judged_within a.capture true a.read.within a.plain))
-wkp_decided input output run BadWords is a told no_read no_write = absurd a
-wkp_decided input output run (BadConfig fault) is a told no_read no_write = absurd a
-wkp_decided input output run ReadFault is a told no_read no_write = absurd (no_read refl)
-wkp_decided input output run WriteFault is a told no_read no_write = absurd (no_write refl)
-wkp_decided input output run (BadCapture end place fault) is a told no_read no_write =
-    inl (a.fault ∙ sym (ap judgement (held_is (a.read.file told)) ∙ judged_within a.bytes false a.read.within a.plain))
-wkp_decided input output run NoMemory is a told no_read no_write = inr is
-wkp_decided input output run (TooLong word) is a told no_read no_write =
-    inl (a.word ∙ sym (judged_long (held (run.before.contents input)) (a.long told)))
-wkp_decided input output run (BadMessage word fault) is a told no_read no_write = absurd a
-wkp_decided input output run NoDevice is a told no_read no_write = absurd a
+-- WHERE CAPTURES WERE CARRIED
+
+-- What both captures hold is told.
+pub told_names : (files : FilesMeaning) (left right : Option (List ℕ)) → AllTold (some_name left ++ some_name right) files → AreTold files (captures_named left right)
+told_names files None None told ends.Left = tt
+told_names files None None told ends.Right = tt
+told_names files None (Some right) told ends.Left = tt
+told_names files None (Some right) told ends.Right = told.0
+told_names files (Some left) None told ends.Left = told.0
+told_names files (Some left) None told ends.Right = tt
+told_names files (Some left) (Some right) told ends.Left = told.0
+told_names files (Some left) (Some right) told ends.Right = told.1.0
+
+-- what the captures decide, by what holds after another number of bytes was read of each file
+module _ (left right : ℕ) (c : Crossing) (given : List ℕ → Option ℕ) (told : IsTold c) where
+  abbrev other : Crossing
+  other = record c { before = record c.before { given = given } }
+
+  written_so : (course : Course) → HasWritten c course → HasWritten other course
+  written_so course w = record { ends = w.ends; holds = w.holds; comes = w.comes }
+
+  whole_so : (out_old out_new : List ℕ) → IsDone c out_old out_new → IsWhole other out_old out_new
+  whole_so out_old out_new done =
+      let crossed : IsCrossed c done.counts = done.holds told in
+      record {
+        counts = done.counts;
+        crossed = record { written = written_so finished crossed.written; counted = crossed.counted; within = crossed.within };
+        line = done.told_line told;
+      }
+
+  pub carried_decided : (s : Status) (out_old out_new : List ℕ) → CarriedAnswer left right c out_old out_new s → (s ≡ ReadFault → ⊥) → (s ≡ WriteFault → ⊥)
+      → CarriedSays left right other out_old out_new s ⊎ (s ≡ NoMemory)
+  carried_decided Ok out_old out_new a no_read no_write = inl (whole_so out_old out_new a)
+  carried_decided BadWords out_old out_new a no_read no_write = absurd a
+  carried_decided (BadConfig fault) out_old out_new a no_read no_write = absurd a
+  carried_decided ReadFault out_old out_new a no_read no_write = absurd (no_read refl)
+  carried_decided WriteFault out_old out_new a no_read no_write = absurd (no_write refl)
+  carried_decided (BadCapture end place fault) out_old out_new a no_read no_write =
+      inl (record { may_fail = a.0; written = written_so (stopped end place fault) (a.1 told) })
+  carried_decided NoMemory out_old out_new a no_read no_write = inr refl
+  carried_decided (TooLong word) out_old out_new a no_read no_write = inl (record { end = a.end; word_of = a.word_of; long = a.holds.0 })
+  carried_decided (BadMessage word fault) out_old out_new a no_read no_write = absurd a
+  carried_decided NoDevice out_old out_new a no_read no_write = absurd a
+
+wkp_decided : (input output : List ℕ) (run : Run) → CarriedAnswer 1 1 (wkp_crossing input output run) run.out_before run.out_after run.status → IsTrue (run.before.told input)
+    → (run.status ≡ ReadFault → ⊥) → (run.status ≡ WriteFault → ⊥) → Decided (wkp input output) run ⊎ (run.status ≡ NoMemory)
+wkp_decided input output run a told no_read no_write =
+    carried_decided 1 1 (wkp_crossing input output run) run.before.given (told_names run.before (Some input) None (told, tt)) run.status run.out_before run.out_after a no_read no_write
+
+-- what the bytes of a configuration are judged to be
+judged_within : (bytes : List ℕ) → length bytes ≤ 1048576 → carrying.judgement bytes ≡ carrying.judged (config_of bytes)
+judged_within bytes within =
+    let short : nat_lt 1048576 (length bytes) ≡ false = grind (arith, nat_tests) in
+    ap (λ b. if b then carrying.too_long else carrying.judged (config_of bytes)) short
+
+judged_long : (bytes : List ℕ) → 1048576 < length bytes → carrying.judgement bytes ≡ carrying.too_long
+judged_long bytes long =
+    ap (λ b. if b then carrying.too_long else carrying.judged (config_of bytes)) (lt-ltb 1048576 (length bytes) long)
+
+judged_held : (files : FilesMeaning) (configuration bytes : List ℕ) → WasRead files configuration 1048576 bytes → IsTrue (files.told configuration)
+    → carrying.judgement (held (files.contents configuration)) ≡ carrying.judged (config_of bytes)
+judged_held files configuration bytes read told = ap carrying.judgement (held_is (read.file told)) ∙ judged_within bytes read.within
+
+run_accepted : (names : RunFiles) (run : Run) (s : Status) → run.status ≡ s → carrying.IsAccepted names run s → AllTold (reads_of (carry_run names)) run.before → (s ≡ ReadFault → ⊥) → (s ≡ WriteFault → ⊥)
+    → Decided (carry_run names) run ⊎ (run.status ≡ NoMemory)
+run_accepted names run s is a told no_read no_write =
+    let c : Crossing = carrying.crossing_by a.chain names (carrying.with_given a.given run) in
+    let bytes = a.settings in
+    let judgement : carrying.judgement (held (run.before.contents names.configuration)) ≡ carrying.accepted a.chain =
+    judged_held run.before names.configuration bytes.bytes bytes.read told.0 ∙ ap carrying.judged bytes.settings in
+    elim (carried_decided 2 3 c run.before.given (told_names run.before names.left names.right told.1) s run.out_before run.out_after a.carried no_read no_write) [
+      | inl says ↦ inl (subst (λ (j : carrying.Judgement). carrying.CarryRunSays names run j) (sym judgement)
+          (subst (λ (x : Status). CarriedSays 2 3 (carrying.crossing_by a.chain names run) run.out_before run.out_after x) (sym is) says))
+      | inr none ↦ inr (is ∙ none)
+    ]
+
+run_refused : (names : RunFiles) (run : Run) (fault : ConfigFault) → run.status ≡ BadConfig fault → carrying.IsRefused names run fault → AllTold (reads_of (carry_run names)) run.before → Decided (carry_run names) run
+run_refused names run fault is a told =
+    let bytes = a.fault_there in
+    let judgement : carrying.judgement (held (run.before.contents names.configuration)) ≡ carrying.bad_config bytes.told =
+    judged_held run.before names.configuration bytes.bytes bytes.read told.0 ∙ ap carrying.judged bytes.refused in
+    subst (λ (j : carrying.Judgement). carrying.CarryRunSays names run j) (sym judgement)
+    (subst (λ (x : Status). carrying.TellsFault bytes.told x) (sym is) bytes.is_fault)
+
+run_long : (names : RunFiles) (run : Run) (word : ℕ) → run.status ≡ TooLong word → carrying.IsLongConfiguration names run word → AllTold (reads_of (carry_run names)) run.before → Decided (carry_run names) run
+run_long names run word is a told =
+    subst (λ (j : carrying.Judgement). carrying.CarryRunSays names run j) (sym (judged_long (held (run.before.contents names.configuration)) (a.long told.0)))
+    (is ∙ ap TooLong a.word_of)
+
+run_decided : (names : RunFiles) (run : Run) (s : Status) → run.status ≡ s → carrying.CarryRunAnswer names run s → AllTold (reads_of (carry_run names)) run.before → (s ≡ ReadFault → ⊥) → (s ≡ WriteFault → ⊥)
+    → Decided (carry_run names) run ⊎ (run.status ≡ NoMemory)
+run_decided names run Ok is a told no_read no_write = run_accepted names run Ok is a told no_read no_write
+run_decided names run BadWords is a told no_read no_write = absurd a
+run_decided names run (BadConfig fault) is a told no_read no_write = inl (run_refused names run fault is a told)
+run_decided names run ReadFault is a told no_read no_write = absurd (no_read refl)
+run_decided names run WriteFault is a told no_read no_write = absurd (no_write refl)
+run_decided names run (BadCapture end place fault) is a told no_read no_write = run_accepted names run (BadCapture end place fault) is a told no_read no_write
+run_decided names run NoMemory is a told no_read no_write = inr is
+run_decided names run (TooLong word) is (inl long) told no_read no_write = inl (run_long names run word is long told)
+run_decided names run (TooLong word) is (inr a) told no_read no_write = run_accepted names run (TooLong word) is a told no_read no_write
+run_decided names run (BadMessage word fault) is a told no_read no_write = absurd a
+run_decided names run NoDevice is a told no_read no_write = absurd a
 
 map_said : (configuration : List ℕ) (device : ℕ) (address : Address) (run : Run) → IsReadAs configuration device address run → IsTrue (run.before.told configuration) → Decided (map_address configuration device address) run
 map_said configuration device address run a told =
@@ -134,8 +220,10 @@ dns64_decided prefix names output run NoDevice is a told no_read no_write = absu
 
 -- A run that keeps its promise is complete.
 pub complete : (command : Command) (run : Run) → Promise command run → IsComplete command run
+complete (carry_run names) run p told no_read no_write =
+    run_decided names run run.status refl p.answer told (λ is. no_read (p.read_fault is)) (λ is. no_write (p.write_fault is))
 complete (wkp input output) run p told no_read no_write =
-    wkp_decided input output run run.status refl p.answer told.0 (λ is. no_read (p.read_fault is)) (λ is. no_write (p.write_fault is))
+    wkp_decided input output run p.answer told.0 (λ is. no_read (p.read_fault is)) (λ is. no_write (p.write_fault is))
 complete (map_address configuration device address) run p told no_read no_write =
     map_decided configuration device address run run.status refl p.answer told.0 (λ is. no_read (p.read_fault is))
 complete (discover answer) run p told no_read no_write =

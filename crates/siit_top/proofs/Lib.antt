@@ -1,8 +1,7 @@
-pub mod Records
-pub mod Translated
-pub mod Packets
-pub mod Carried
-pub mod Outputs
+pub mod OwnFiles
+pub mod CarriedAnswers
+pub mod CarryRuns
+pub mod WellKnownSettings
 pub mod WkpRuns
 pub mod Completed
 pub mod WordCounts
@@ -10,3 +9,4 @@ pub mod MapRuns
 pub mod DiscoverRuns
 pub mod Dns64Reads
 pub mod Dns64Runs
+pub mod PairRuns

@@ -1,127 +1,84 @@
 -- When `wkp` may end in which way.
-use Rattle.std.proofs.Common.{◌≡◌, ℕ, List, [], ◌∷◌, ◌++◌, true, false, is_some, inl, inr, ⊎_elim, refl, ◌∙◌, arith}
-use Rattle.siit_word.specs.Files.{FilesMeaning, HoldsPart, ReadFailed, Stays, Touches, WriteFailed, Written, WrittenPart}
-use Rattle.siit_word.proofs.Touched.{touches_among, touches_then}
-use Rattle.siit_command.specs.Reading.{IsLonger, IsUnread, WasRead}
-use Rattle.siit_command.specs.declared.reading.Unread.{Unread}
-use Rattle.siit_command.specs.declared.reading.Unread.TheVariants as unread
-use Rattle.siit_top.specs.PlainCapture.{records_of}
+use Rattle.std.proofs.Common.{◌≡◌, ◌⊎◌, inl, inr, ℕ, List, [], ◌∷◌, Option, Some, None, Result, Ok, Err, refl, ap, sym, subst, ◌∙◌}
+use Rattle.siit_chain.specs.Outputs.{WriteFailedIn}
+use Rattle.siit_chain.specs.declared.origin.End.{End}
+use Rattle.siit_chain.specs.declared.origin.End.TheVariants as ends
+use Rattle.siit_chain.specs.declared.origin.Output.{Output}
+use Rattle.siit_chain.specs.declared.origin.Output.TheVariants as outputs
+use Rattle.siit_network.specs.Crossings.{Crossing, HoldsAfter}
+use Rattle.siit_network.specs.Networks.{network}
+use Rattle.siit_running.specs.Inputs.{names_of, ReadFailedAt}
+use Rattle.siit_running.specs.declared.fault.RunFault.{RunFault}
+use Rattle.siit_running.specs.declared.fault.RunFault.TheVariants as faults
+use Rattle.siit_word.specs.Causes.{Rose}
+use Rattle.siit_word.specs.Files.{FilesMeaning, Touches}
+use Rattle.siit_word.proofs.Touched.{touches_none}
+use Rattle.siit_roles.specs.Chain.{Chain}
+use Rattle.siit_top.specs.Carried.{carried_status, output_files, EndsSo}
 use Rattle.siit_top.specs.Promises.{Promise}
-use Rattle.siit_top.specs.Ends.{stopped_status, unread_status}
-use Rattle.siit_top.specs.Runs.{run_between, IsStopped}
-use Rattle.siit_top.specs.Turns.{records_read}
-use Rattle.siit_top.specs.Wkp.{wkp_capture, wkp_line}
-use Rattle.siit_top.specs.WkpRun.{not_built}
+use Rattle.siit_top.specs.Runs.{run_between, SomeRose}
+use Rattle.siit_top.specs.WellKnown.{well_known_chain}
+use Rattle.siit_top.specs.WkpRun.{wkp_captures, wkp_crossing, wkp_outputs}
 use Rattle.siit_top.specs.Words.{wkp}
-use Rattle.siit_top.specs.declared.commands.ends.Stopped.{Stopped}
-use Rattle.siit_top.specs.declared.commands.ends.Stopped.TheVariants as stopped
-use Rattle.siit_top.specs.declared.status.Status.TheVariants.{Ok, ReadFault, WriteFault, NoMemory, TooLong}
+use Rattle.siit_top.specs.declared.status.Status.TheVariants as status
+use Rattle.siit_top.proofs.CarriedAnswers.{carried_answer, carried_read, carried_silent, carried_write, HasFailedCapture}
 
--- only IN was read
-unwritten : {before after : FilesMeaning} {input : List ℕ} → Touches before after (input ∷ []) [] → Stays before.contents after.contents
-unwritten h = λ q. h.contents q tt
-
-among_both : {before after : FilesMeaning} {input : List ℕ} (output : List ℕ) → Touches before after (input ∷ []) [] → Touches before after (input ∷ []) (output ∷ [])
-among_both output h = touches_among h (λ q none. none) (λ q none. tt)
-
-both_among : {before after : FilesMeaning} {output : List ℕ} (input : List ℕ) → Touches before after [] (output ∷ []) → Touches before after (input ∷ []) (output ∷ [])
-both_among input h = touches_among h (λ q none. tt) (λ q none. none)
-
-wkp_not_read : {before after : FilesMeaning} {coming : ℕ → ℕ → ℕ} {input output out : List ℕ} → Touches before after (input ∷ []) [] → ReadFailed before after input → Promise (wkp input output) (run_between before after coming coming out out ReadFault)
-wkp_not_read {before} {after} {coming} {input} {output} only cause = record {
-  answer = unwritten only;
-  read_fault = λ is. inl cause;
-  write_fault = λ is. cc;
-  only = among_both output only;
-  idents = λ device k. refl;
-  silent = λ other. refl;
-}
-
-wkp_no_room : {before after : FilesMeaning} {coming : ℕ → ℕ → ℕ} {input output out : List ℕ} → Touches before after (input ∷ []) [] → Promise (wkp input output) (run_between before after coming coming out out NoMemory)
-wkp_no_room {before} {after} {coming} {input} {output} only = record {
-  answer = inl (unwritten only);
+-- there was no memory for the settings
+pub wkp_no_room : {files : FilesMeaning} {coming : ℕ → ℕ → ℕ} {input output out : List ℕ} → Promise (wkp input output) (run_between files files coming coming out out status.NoMemory)
+wkp_no_room = record {
+  answer = λ told. record { each = λ o name is told. inl refl };
   read_fault = λ is. cc;
   write_fault = λ is. cc;
-  only = among_both output only;
-  idents = λ device k. refl;
-  silent = λ other. refl;
+  only = touches_none;
+  idents = tt;
+  silent = λ isnt. refl;
 }
 
-wkp_too_long : {before after : FilesMeaning} {coming : ℕ → ℕ → ℕ} {input output out : List ℕ} → Touches before after (input ∷ []) [] → IsLonger before input 4294967296 → Promise (wkp input output) (run_between before after coming coming out out (TooLong 1))
-wkp_too_long {before} {after} {coming} {input} {output} only long = record {
-  answer = record { word = refl; long = long; unwritten = unwritten only };
-  read_fault = λ is. cc;
-  write_fault = λ is. cc;
-  only = among_both output only;
-  idents = λ device k. refl;
-  silent = λ other. refl;
-}
+-- at IN the count rose
+some_input : (input : List ℕ) (before after : FilesMeaning) (end : End) → ReadFailedAt before after (wkp_captures input end) → SomeRose (input ∷ []) before.read_faults after.read_faults
+some_input input before after ends.Left failed = inl failed
+some_input input before after ends.Right failed = absurd failed
 
-unread_by : (u : Unread) (before after : FilesMeaning) (coming : ℕ → ℕ → ℕ) (input output out : List ℕ) → Touches before after (input ∷ []) [] → IsUnread before after input 4294967296 u → Promise (wkp input output) (run_between before after coming coming out out (unread_status 1 u))
-unread_by unread.Failed before after coming input output out only cause = wkp_not_read only cause
-unread_by unread.NoMemory before after coming input output out only cause = wkp_no_room only
-unread_by unread.TooLong before after coming input output out only cause = wkp_too_long only cause
+-- at OUT it did
+some_output : (output : List ℕ) (before after : FilesMeaning) (o : Output) (name : List ℕ) → wkp_outputs output o ≡ Some name → Rose (before.write_faults name) (after.write_faults name)
+    → SomeRose (output ∷ []) before.write_faults after.write_faults
+some_output output before after outputs.Left name is rose = cc
+some_output output before after outputs.Right name is rose =
+    let same : output ≡ name = cc in
+    inl (subst (λ (n : List ℕ). Rose (before.write_faults n) (after.write_faults n)) (sym same) rose)
+some_output output before after outputs.Report name is rose = cc
 
--- IN wasn't read.
-pub wkp_unread : (u : Unread) {before after : FilesMeaning} {coming : ℕ → ℕ → ℕ} {input output out : List ℕ} → Touches before after (input ∷ []) [] → IsUnread before after input 4294967296 u → Promise (wkp input output) (run_between before after coming coming out out (unread_status 1 u))
-wkp_unread u {before} {after} {coming} {input} {output} {out} only cause = unread_by u before after coming input output out only cause
+wkp_carried : (input output : List ℕ) (before after : FilesMeaning) (coming coming_after : ℕ → ℕ → ℕ) (old new : List ℕ) (result : Result (Unit {0}) RunFault) → Touches before after (input ∷ []) (output ∷ [])
+    → EndsSo (wkp_crossing input output (run_between before after coming coming_after old new status.Ok)) old new result
+    → Promise (wkp input output) (run_between before after coming coming_after old new (carried_status 1 1 result))
+wkp_carried input output before after coming coming_after old new result only ended =
+    let c : Crossing = wkp_crossing input output (run_between before after coming coming_after old new status.Ok) in
+    record {
+      answer = carried_answer 1 1 c old new result ended;
+      read_fault = λ is.
+          let failed = carried_read 1 1 c old new result ended is in
+          some_input input before after failed.end failed.failed;
+      write_fault = λ is.
+          let failed = carried_write 1 1 c old new result ended is in
+          some_output output before after failed.output failed.name failed.named failed.failed;
+      only = only;
+      idents = tt;
+      silent = λ isnt. carried_silent 1 1 c old new result ended isnt;
+    }
 
-pub wkp_no_capture : {before after : FilesMeaning} {coming : ℕ → ℕ → ℕ} {input output out bytes : List ℕ} → Touches before after (input ∷ []) [] → WasRead before input 4294967296 bytes → is_some (records_of bytes) ≡ false → Promise (wkp input output) (run_between before after coming coming out out not_built)
-wkp_no_capture {before} {after} {coming} {input} {output} {out} {bytes} only read bad = record {
-  answer = record { bytes = bytes; read = read; plain = bad; fault = refl; unwritten = unwritten only };
-  read_fault = λ is. cc;
-  write_fault = λ is. cc;
-  only = among_both output only;
-  idents = λ device k. refl;
-  silent = λ other. refl;
-}
-
--- IN was read, and then OUT was written.
-both : {before mid after : FilesMeaning} {input output : List ℕ} → Touches before mid (input ∷ []) [] → Touches mid after [] (output ∷ []) → Touches before after (input ∷ []) (output ∷ [])
-both {before} {mid} {after} {input} {output} read written = touches_then (among_both output read) (both_among input written)
-
-pub wkp_carried : {before mid after : FilesMeaning} {coming : ℕ → ℕ → ℕ} {input output out_before out_after capture : List ℕ} → Touches before mid (input ∷ []) [] → WasRead before input 4294967296 capture → is_some (records_of capture) ≡ true → Written mid after output (wkp_capture (records_read capture)) → out_after ≡ out_before ++ wkp_line (records_read capture) → Promise (wkp input output) (run_between before after coming coming out_before out_after Ok)
-wkp_carried {capture = capture} only read plain written line = record {
-  answer = record { capture = capture; read = read; plain = plain; written = written.file; line = line };
-  read_fault = λ is. cc;
-  write_fault = λ is. cc;
-  only = both only written.only;
-  idents = λ device k. refl;
-  silent = λ other. absurd (other refl);
-}
-
--- OUT holds a part, as seen from before IN was read.
-part_since : (before mid after : FilesMeaning) (input output text : List ℕ) → Touches before mid (input ∷ []) [] → WrittenPart mid after output text → HoldsPart before after output text
-part_since before mid after input output text only part = λ told.
-    ⊎_elim (λ same. inl (same ∙ only.contents output tt)) inr (part.file told)
-
-wkp_not_written : {before mid after : FilesMeaning} {coming : ℕ → ℕ → ℕ} {input output out_before out_after capture : List ℕ} → Touches before mid (input ∷ []) [] → WasRead before input 4294967296 capture → is_some (records_of capture) ≡ true → WrittenPart mid after output (wkp_capture (records_read capture)) → WriteFailed mid after output → out_after ≡ out_before → Promise (wkp input output) (run_between before after coming coming out_before out_after WriteFault)
-wkp_not_written {before} {mid} {after} {coming} {input} {output} {out_before} {out_after} {capture} only read plain part cause same = record {
-  answer = record { capture = capture; read = read; plain = plain; part = part_since _ _ _ _ _ _ only part };
-  read_fault = λ is. cc;
-  write_fault = λ is. inl (omega (arith, cause, only.write_faults output));
-  only = both only part.only;
-  idents = λ device k. refl;
-  silent = λ other. same;
-}
-
-wkp_no_more : {before mid after : FilesMeaning} {coming : ℕ → ℕ → ℕ} {input output out_before out_after capture : List ℕ} → Touches before mid (input ∷ []) [] → WasRead before input 4294967296 capture → is_some (records_of capture) ≡ true → WrittenPart mid after output (wkp_capture (records_read capture)) → out_after ≡ out_before → Promise (wkp input output) (run_between before after coming coming out_before out_after NoMemory)
-wkp_no_more {before} {mid} {after} {coming} {input} {output} {out_before} {out_after} {capture} only read plain part same = record {
-  answer = inr (record { capture = capture; read = read; plain = plain; part = part_since _ _ _ _ _ _ only part });
-  read_fault = λ is. cc;
-  write_fault = λ is. cc;
-  only = both only part.only;
-  idents = λ device k. refl;
-  silent = λ other. same;
-}
-
-stopped_by : (t : Stopped) (before mid after : FilesMeaning) (coming : ℕ → ℕ → ℕ) (input output out_before out_after capture : List ℕ) → Touches before mid (input ∷ []) [] → WasRead before input 4294967296 capture → is_some (records_of capture) ≡ true → WrittenPart mid after output (wkp_capture (records_read capture)) → IsStopped mid after output t → out_after ≡ out_before → Promise (wkp input output) (run_between before after coming coming out_before out_after (stopped_status t))
-stopped_by stopped.Failed before mid after coming input output out_before out_after capture only read plain part cause same = wkp_not_written only read plain part cause same
-stopped_by stopped.NoMemory before mid after coming input output out_before out_after capture only read plain part cause same = wkp_no_more only read plain part same
-
--- OUT wasn't written to its end.
-pub wkp_stopped : (t : Stopped) {before mid after : FilesMeaning} {coming : ℕ → ℕ → ℕ} {input output out_before out_after capture : List ℕ} → Touches before mid (input ∷ []) [] → WasRead before input 4294967296 capture → is_some (records_of capture) ≡ true → WrittenPart mid after output (wkp_capture (records_read capture)) → IsStopped mid after output t → out_after ≡ out_before → Promise (wkp input output) (run_between before after coming coming out_before out_after (stopped_status t))
-wkp_stopped t {before} {mid} {after} {coming} {input} {output} {out_before} {out_after} {capture} only read plain part cause same =
-    stopped_by t before mid after coming input output out_before out_after capture only read plain part cause same
-
-pub ruleset wkp_statuses = (wkp_no_capture, wkp_carried)
+-- what is said of files by their names alone, for names that are the same, and for these settings
+pub wkp_ended : {input output : List ℕ} {before after : FilesMeaning} {coming coming_after : ℕ → ℕ → ℕ} {old new : List ℕ} {chain : Chain}
+    (result : Result (Unit {0}) RunFault) (captures : End → Option (List ℕ)) (named : Output → Option (List ℕ)) → chain ≡ well_known_chain → captures ≡ wkp_captures input → named ≡ wkp_outputs output
+    → Touches before after (names_of captures) (output_files named)
+    → EndsSo (record { network = network chain; captures = captures; outputs = named; before = before; now = after; coming_before = coming; coming_now = coming_after }) old new result
+    → Promise (wkp input output) (run_between before after coming coming_after old new (carried_status 1 1 result))
+wkp_ended {input} {output} {before} {after} {coming} {coming_after} {old} {new} {chain} result captures named built is and touched ended =
+    let files : Touches before after (input ∷ []) (output ∷ []) =
+    subst (λ (n : Output → Option (List ℕ)). Touches before after (names_of (wkp_captures input)) (output_files n)) and
+    (subst (λ (n : End → Option (List ℕ)). Touches before after (names_of n) (output_files named)) is touched) in
+    let by_chain : EndsSo (record { network = network well_known_chain; captures = captures; outputs = named; before = before; now = after; coming_before = coming; coming_now = coming_after }) old new result =
+    subst (λ (s : Chain). EndsSo (record { network = network s; captures = captures; outputs = named; before = before; now = after; coming_before = coming; coming_now = coming_after }) old new result) built ended in
+    let crossed : EndsSo (record { network = network well_known_chain; captures = wkp_captures input; outputs = wkp_outputs output; before = before; now = after; coming_before = coming; coming_now = coming_after }) old new result =
+    subst (λ (n : Output → Option (List ℕ)). EndsSo (record { network = network well_known_chain; captures = wkp_captures input; outputs = n; before = before; now = after; coming_before = coming; coming_now = coming_after }) old new result) and
+    (subst (λ (n : End → Option (List ℕ)). EndsSo (record { network = network well_known_chain; captures = n; outputs = named; before = before; now = after; coming_before = coming; coming_now = coming_after }) old new result) is by_chain) in
+    wkp_carried input output before after coming coming_after old new result files crossed

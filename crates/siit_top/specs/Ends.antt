@@ -4,8 +4,8 @@ use Rattle.siit_command.specs.declared.reading.Unread.{Unread}
 use Rattle.siit_command.specs.declared.reading.Unread.TheVariants as unread
 use Rattle.siit_top.specs.declared.commands.ends.Stopped.{Stopped}
 use Rattle.siit_top.specs.declared.commands.ends.Stopped.TheVariants as stopped
-use Rattle.siit_top.specs.declared.commands.wkp.WkpEnd.{WkpEnd}
-use Rattle.siit_top.specs.declared.commands.wkp.WkpEnd.TheVariants as wkp
+use Rattle.siit_top.specs.declared.commands.settings.NoSettings.{NoSettings}
+use Rattle.siit_top.specs.declared.commands.settings.NoSettings.TheVariants as unset
 use Rattle.siit_top.specs.declared.commands.map.MapEnd.{MapEnd}
 use Rattle.siit_top.specs.declared.commands.map.MapEnd.TheVariants as map
 use Rattle.siit_top.specs.declared.commands.discover.DiscoverEnd.{DiscoverEnd}
@@ -15,7 +15,6 @@ use Rattle.siit_top.specs.declared.commands.dns64.Dns64End.TheVariants as dns64
 use Rattle.siit_top.specs.declared.status.Status.{Status}
 use Rattle.siit_top.specs.declared.status.Status.TheVariants.{Ok, BadConfig, ReadFault, WriteFault, BadMessage, NoMemory, TooLong, NoDevice}
 use Rattle.siit_top.specs.Dns64Run.{message_word}
-use Rattle.siit_top.specs.WkpRun.{not_built}
 
 -- The file that the word at this place names wasn't read.
 abbrev pub unread_status : (word : ℕ) → Unread → Status
@@ -28,11 +27,11 @@ abbrev pub stopped_status : Stopped → Status
 stopped_status stopped.Failed = WriteFault
 stopped_status stopped.NoMemory = NoMemory
 
-abbrev pub wkp_status : WkpEnd → Status
-wkp_status wkp.Carried = Ok
-wkp_status (wkp.Unread unread) = unread_status 1 unread
-wkp_status wkp.NotBuilt = not_built
-wkp_status (wkp.Stopped stopped) = stopped_status stopped
+-- CONFIG gave no settings.
+abbrev pub unset_status : NoSettings → Status
+unset_status (unset.Unread unread) = unread_status 1 unread
+unset_status (unset.BadConfig fault) = BadConfig fault
+unset_status unset.NoMemory = NoMemory
 
 abbrev pub map_status : MapEnd → Status
 map_status map.Printed = Ok

@@ -1,40 +1,7 @@
--- One capture translated, as worked by hand.
-use Rattle.std.specs.Prelude.{◌≡◌, ℕ, List, [], ◌∷◌, ◌++◌, take, Some, None, option_map, codes}
-use Rattle.siit_top.specs.PlainCapture.{records_of}
-use Rattle.siit_top.specs.Wkp.{wkp_capture, wkp_line}
+-- Words that are commands, and words that are none, as worked by hand.
+use Rattle.std.specs.Prelude.{◌≡◌, ℕ, List, [], ◌∷◌, Option, Some, None, codes}
 use Rattle.siit_command.specs.Words.{four, six}
-use Rattle.siit_top.specs.Words.{command_of, map_address, wkp}
-
-abbrev segment : List ℕ
-segment = 0xc0 ∷ 0x00 ∷ 0x00 ∷ 0x50 ∷ 0x00 ∷ 0x00 ∷ 0x00 ∷ 0x01 ∷ 0x00 ∷ 0x00 ∷ 0x00 ∷ 0x00 ∷ 0x50 ∷ 0x02 ∷ 0x20 ∷ 0x00 ∷ 0xbd ∷ 0x7f ∷ 0x00 ∷ 0x00 ∷ []
-
-abbrev head_in : List ℕ
-head_in = 0xd4 ∷ 0xc3 ∷ 0xb2 ∷ 0xa1 ∷ 0x02 ∷ 0x00 ∷ 0x04 ∷ 0x00 ∷ 0x00 ∷ 0x00 ∷ 0x00 ∷ 0x00 ∷ 0x00 ∷ 0x00 ∷ 0x00 ∷ 0x00 ∷ 0x00 ∷ 0x00 ∷ 0x04 ∷ 0x00 ∷ 0x65 ∷ 0x00 ∷ 0x00 ∷ 0x00 ∷ []
-
--- one TCP packet from 8.8.8.8 to 1.1.1.1, second 1, microsecond 5
-abbrev capture_in : List ℕ
-capture_in =
-    head_in ++ 0x01 ∷ 0x00 ∷ 0x00 ∷ 0x00 ∷ 0x05 ∷ 0x00 ∷ 0x00 ∷ 0x00 ∷ 0x28 ∷ 0x00 ∷ 0x00 ∷ 0x00 ∷ 0x28 ∷ 0x00 ∷ 0x00 ∷ 0x00
-    ∷ 0x45 ∷ 0x00 ∷ 0x00 ∷ 0x28 ∷ 0x00 ∷ 0x01 ∷ 0x00 ∷ 0x00 ∷ 0x40 ∷ 0x06 ∷ 0x68 ∷ 0xbe ∷ 0x08 ∷ 0x08 ∷ 0x08 ∷ 0x08 ∷ 0x01 ∷ 0x01 ∷ 0x01 ∷ 0x01
-    ∷ segment
-
-abbrev capture_out : List ℕ
-capture_out =
-    0x4d ∷ 0x3c ∷ 0xb2 ∷ 0xa1 ∷ 0x02 ∷ 0x00 ∷ 0x04 ∷ 0x00 ∷ 0x00 ∷ 0x00 ∷ 0x00 ∷ 0x00 ∷ 0x00 ∷ 0x00 ∷ 0x00 ∷ 0x00 ∷ 0x00 ∷ 0x00 ∷ 0x04 ∷ 0x00 ∷ 0x65 ∷ 0x00 ∷ 0x00 ∷ 0x00
-    ∷ 0x01 ∷ 0x00 ∷ 0x00 ∷ 0x00 ∷ 0x88 ∷ 0x13 ∷ 0x00 ∷ 0x00 ∷ 0x3c ∷ 0x00 ∷ 0x00 ∷ 0x00 ∷ 0x3c ∷ 0x00 ∷ 0x00 ∷ 0x00
-    ∷ 0x60 ∷ 0x00 ∷ 0x00 ∷ 0x00 ∷ 0x00 ∷ 0x14 ∷ 0x06 ∷ 0x3f
-    ∷ 0x00 ∷ 0x64 ∷ 0xff ∷ 0x9b ∷ 0x00 ∷ 0x00 ∷ 0x00 ∷ 0x00 ∷ 0x00 ∷ 0x00 ∷ 0x00 ∷ 0x00 ∷ 0x08 ∷ 0x08 ∷ 0x08 ∷ 0x08
-    ∷ 0x00 ∷ 0x64 ∷ 0xff ∷ 0x9b ∷ 0x00 ∷ 0x00 ∷ 0x00 ∷ 0x00 ∷ 0x00 ∷ 0x00 ∷ 0x00 ∷ 0x00 ∷ 0x01 ∷ 0x01 ∷ 0x01 ∷ 0x01
-    ∷ segment
-
-pub record CaptureExamples : Type 0 where
-  pub carried : option_map wkp_capture (records_of capture_in) ≡ Some capture_out
-  pub line : option_map wkp_line (records_of capture_in) ≡ Some (codes "end 1 0 0 1 0\n")
-  -- a head alone is an empty capture, and nothing is none
-  pub empty : option_map wkp_line (records_of head_in) ≡ Some (codes "end 0 0 0 0 0\n")
-  pub nothing : records_of [] ≡ None
-  pub cut : records_of (take 79 capture_in) ≡ None
-  pub trailing : records_of (capture_in ++ 0 ∷ []) ≡ None
+use Rattle.siit_top.specs.Words.{carry_run, command_of, map_address, wkp, Command, RunFiles}
 
 pub record WordExamples : Type 0 where
   pub good : command_of (codes "wkp" ∷ codes "in" ∷ codes "out" ∷ []) ≡ Some (wkp (codes "in") (codes "out"))
@@ -55,3 +22,33 @@ pub record MapWordExamples : Type 0 where
   pub no_address : command_of (codes "map" ∷ codes "c" ∷ codes "1" ∷ codes "192.168.1.300" ∷ []) ≡ None
   pub few : command_of (codes "map" ∷ codes "c" ∷ codes "1" ∷ []) ≡ None
   pub other : command_of (codes "wkp" ∷ codes "c" ∷ codes "1" ∷ codes "::1" ∷ []) ≡ None
+
+-- of the words of a file each by one letter
+abbrev run_words : (left right left_output : List ℕ) → List (List ℕ)
+run_words left right left_output =
+    codes "run" ∷ codes "c" ∷ left ∷ right ∷ left_output ∷ codes "p" ∷ codes "r" ∷ []
+
+abbrev run_command : (left right : Option (List ℕ)) → Command
+run_command left right =
+    carry_run (record {
+      configuration = codes "c";
+      left = left;
+      right = right;
+      left_output = codes "o";
+      right_output = codes "p";
+      report = codes "r";
+    })
+
+pub record RunWordExamples : Type 0 where
+  pub good : command_of (run_words (codes "a") (codes "b") (codes "o")) ≡ Some (run_command (Some (codes "a")) (Some (codes "b")))
+  pub no_left : command_of (run_words (codes "-") (codes "b") (codes "o")) ≡ Some (run_command None (Some (codes "b")))
+  pub no_captures : command_of (run_words (codes "-") (codes "-") (codes "o")) ≡ Some (run_command None None)
+  -- inputs may be one file
+  pub one_input : command_of (run_words (codes "c") (codes "c") (codes "o")) ≡ Some (run_command (Some (codes "c")) (Some (codes "c")))
+  pub output_dash : command_of (run_words (codes "a") (codes "b") (codes "-")) ≡ None
+  pub over_configuration : command_of (run_words (codes "a") (codes "b") (codes "c")) ≡ None
+  pub over_capture : command_of (run_words (codes "a") (codes "b") (codes "b")) ≡ None
+  pub over_output : command_of (run_words (codes "a") (codes "b") (codes "p")) ≡ None
+  pub over_report : command_of (run_words (codes "a") (codes "b") (codes "r")) ≡ None
+  pub outputs_alike : command_of (codes "run" ∷ codes "c" ∷ codes "l" ∷ codes "-" ∷ codes "o" ∷ codes "o" ∷ codes "r" ∷ []) ≡ None
+  pub few : command_of (codes "run" ∷ codes "c" ∷ codes "a" ∷ codes "b" ∷ codes "o" ∷ codes "p" ∷ []) ≡ None

@@ -1,5 +1,5 @@
 -- A run of the program.
-use Rattle.std.specs.Prelude.{◌⊎◌, ℕ, List, [], ◌∷◌, IsTrue}
+use Rattle.std.specs.Prelude.{◌≡◌, ◌⊎◌, ℕ, List, [], ◌∷◌, IsTrue}
 use Rattle.siit_word.specs.Causes.{Rose}
 use Rattle.siit_word.specs.Files.{FilesMeaning, Stays, WriteFailed}
 use Rattle.siit_top.specs.declared.commands.ends.Stopped.{Stopped}
@@ -49,3 +49,7 @@ IsStopped before after name stopped.NoMemory = Unit {0}
 -- No file was written.
 abbrev pub Unwritten : Run → Type 0
 Unwritten run = Stays run.before.contents run.after.contents
+
+-- No identification was taken.
+abbrev pub AreUntaken : Run → Type 0
+AreUntaken run = (device k : ℕ) → run.coming_after device k ≡ run.coming_before device k

@@ -1,10 +1,10 @@
 -- The exit statuses and the lines of the program.
 use Rattle.std.specs.Prelude.{ℕ, List, [], ◌∷◌, ◌++◌, codes}
 use Rattle.std.specs.Fmt.{decimal}
-use Rattle.siit_top.specs.declared.status.End.{End}
-use Rattle.siit_top.specs.declared.status.End.TheVariants.{Left, Right}
-use Rattle.siit_top.specs.declared.status.CaptureFault.{CaptureFault}
-use Rattle.siit_top.specs.declared.status.CaptureFault.TheVariants.{NotBuilt}
+use Rattle.siit_capture.specs.declared.form.CaptureFault.{CaptureFault}
+use Rattle.siit_capture.specs.declared.form.CaptureFault.TheVariants.{BadMagic, BadVersion, BadLinkType, RecordTooLong, BadTime, CutRecord}
+use Rattle.siit_chain.specs.declared.origin.End.{End}
+use Rattle.siit_chain.specs.declared.origin.End.TheVariants.{Left, Right}
 use Rattle.siit_top.specs.declared.status.Status.{Status}
 use Rattle.siit_top.specs.declared.status.Status.TheVariants.{Ok, BadWords, BadConfig, ReadFault, WriteFault, BadCapture, BadMessage, NoMemory, TooLong, NoDevice}
 use Rattle.siit_config.specs.declared.fault.ConfigFault.{ConfigFault}
@@ -17,7 +17,12 @@ end_name Left = codes "left"
 end_name Right = codes "right"
 
 abbrev pub fault_name : CaptureFault → List ℕ
-fault_name NotBuilt = codes "NotBuilt"
+fault_name BadMagic = codes "BadMagic"
+fault_name BadVersion = codes "BadVersion"
+fault_name BadLinkType = codes "BadLinkType"
+fault_name RecordTooLong = codes "RecordTooLong"
+fault_name BadTime = codes "BadTime"
+fault_name CutRecord = codes "CutRecord"
 
 abbrev pub status_code : Status → ℕ
 status_code Ok = 0

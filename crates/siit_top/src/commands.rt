@@ -1,20 +1,24 @@
 //! The commands: the words that each is, and what each does. A command has a file of its own.
 ghost use Rattle.std.specs.Prelude.{◌≡◌, map, option_map};
 ghost use Rattle.std.specs.String.{string_bytes};
-ghost use Rattle.siit_top.specs.Promises.{Promise};
+ghost use Rattle.siit_top.specs.Promises.{HasOwnFiles, Promise};
 ghost use Rattle.siit_top.specs.Read.{command_read};
 ghost use Rattle.siit_top.specs.Runs.{run_between};
 ghost use Rattle.siit_top.specs.Words.{command_of};
 
+mod carrying;
 mod discover;
 mod dns64;
 mod ends;
 mod map;
+mod run;
+mod settings;
 mod wkp;
 
 use crate::commands::discover::{discover, read_discover};
 use crate::commands::dns64::{dns64, given_name, read_dns64};
 use crate::commands::map::{map, read_map};
+use crate::commands::run::{RunFiles, read_run, run};
 use crate::commands::wkp::{read_wkp, wkp};
 use crate::status::Status;
 use siit_command::Address;
@@ -25,7 +29,16 @@ use std::alloc::Global;
 /// What the words ask.
 #[derive(Clone, Copy)]
 pub(crate) enum Command<'a> {
-    /// Translate the capture `input` to `output`.
+    /// Carry two captures through the network of a configuration.
+    Run {
+        configuration: &'a str,
+        left: &'a str,
+        right: &'a str,
+        left_output: &'a str,
+        right_output: &'a str,
+        report: &'a str,
+    },
+    /// Carry the capture `input` through a translator under the well-known prefix, to `output`.
     Wkp {
         input: &'a String,
         output: &'a String,
@@ -58,6 +71,7 @@ pub(crate) fn read_command(words: &[String]) -> Option<Command<'_>>
         return None;
     };
     match name.as_str() {
+        "run" => read_run(words),
         "wkp" => read_wkp(words),
         "map" => read_map(words),
         "discover" => read_discover(words),
@@ -66,21 +80,40 @@ pub(crate) fn read_command(words: &[String]) -> Option<Command<'_>>
     }
 }
 
-/// Does what a command asks, and appends what is printed to `out`. No command takes an identification so far.
-pub(crate) fn run<F: Files, I: Idents>(
+/// Does what a command asks, and appends what is printed to `out`.
+pub(crate) fn perform<F: Files, I: Idents>(
     alloc: Global,
     command: Command<'_>,
     files: &mut F,
     idents: &mut I,
     out: &mut Vec<u8>,
 ) -> Status
+    requires { HasOwnFiles (command_read command) }
     ensures { Promise (command_read command.entry)
         (run_between (F.meaning files.old) (F.meaning files.new) (I.coming idents.old) (I.coming idents.new)
         out.old.items out.new.items result) }
 {
     match command {
+        Command::Run {
+            configuration,
+            left,
+            right,
+            left_output,
+            right_output,
+            report,
+        } => {
+            let names = RunFiles {
+                configuration,
+                left,
+                right,
+                left_output,
+                right_output,
+                report,
+            };
+            run(alloc, names, files, idents, out)
+        }
         Command::Wkp { input, output } => {
-            Status::from(wkp(alloc, files, input.as_str(), output.as_str(), out))
+            wkp(alloc, input.as_str(), output.as_str(), files, idents, out)
         }
         Command::Map {
             configuration,

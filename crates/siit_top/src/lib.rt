@@ -1,32 +1,35 @@
 //! The top call of the program.
 #![tactic(auto)]
 
-mod capture;
-mod carry;
 mod commands;
 mod lines;
 mod map_lines;
-mod packet;
 mod prefix_lines;
 mod status;
 mod top;
 
 ghost use Rattle.siit_top.specs.DiscoverExamples.{DiscoverExamples};
-ghost use Rattle.siit_top.specs.Examples.{CaptureExamples, MapWordExamples, WordExamples};
+ghost use Rattle.siit_top.specs.Examples.{MapWordExamples, RunWordExamples, WordExamples};
 ghost use Rattle.siit_top.specs.MapExamples.{MapExamples};
+ghost use Rattle.siit_top.specs.WellKnownExamples.{WellKnownExamples};
 
 pub use lines::status_line;
-pub use status::{CaptureFault, End, Status};
+pub use status::Status;
 pub use top::siit_main;
 
-/// A capture of one packet, and captures that are none.
-pub fn capture_examples()
-    ensures { CaptureExamples }
-{}
-
-/// Words that are a command, and words that are none.
+/// Words that are the command `wkp`, and words that are none.
 pub fn word_examples()
     ensures { WordExamples }
+{}
+
+/// Words that are the command `run`, and words that are none.
+pub fn run_word_examples()
+    ensures { RunWordExamples }
+{}
+
+/// The configuration of `wkp`.
+pub fn well_known_examples()
+    ensures { WellKnownExamples }
 {}
 
 /// Words that are the command `map`, and words that are none.

@@ -1,8 +1,10 @@
 //! The lines that the program prints.
 ghost use Rattle.std.specs.Prelude.{◌≡◌, IfOk, string_bytes};
-ghost use Rattle.siit_top.specs.Texts.{bad_capture_text, bad_config_text, bad_message_text, message_fault_text, status_text, too_long_text};
+ghost use Rattle.siit_top.specs.Texts.{bad_capture_text, bad_config_text, bad_message_text, end_name, fault_name, message_fault_text, status_text, too_long_text};
 
-use crate::status::{CaptureFault, End, Status};
+use crate::status::Status;
+use siit_capture::CaptureFault;
+use siit_chain::End;
 use siit_command::config_text;
 use siit_config::ConfigFault;
 use siit_dns::DnsFault;
@@ -36,6 +38,30 @@ fn line_of(alloc: Global, status: &Status) -> Result<String, AllocError>
     }
 }
 
+// The name of an end, as it is printed.
+fn end_name(end: End) -> &'static str
+    ensures { result.now ≡ end_name end }
+{
+    match end {
+        End::Left => "left",
+        End::Right => "right",
+    }
+}
+
+// The name of a capture's fault, as it is printed.
+fn fault_name(fault: CaptureFault) -> &'static str
+    ensures { result.now ≡ fault_name fault }
+{
+    match fault {
+        CaptureFault::BadMagic => "BadMagic",
+        CaptureFault::BadVersion => "BadVersion",
+        CaptureFault::BadLinkType => "BadLinkType",
+        CaptureFault::RecordTooLong => "RecordTooLong",
+        CaptureFault::BadTime => "BadTime",
+        CaptureFault::CutRecord => "CutRecord",
+    }
+}
+
 #[tactic(auto, using(std::proofs::Common::append_assoc))]
 fn bad_capture_line(
     alloc: Global,
@@ -45,9 +71,9 @@ fn bad_capture_line(
 ) -> Result<String, AllocError>
     ensures { IfOk result (λ line. string_bytes line ≡ bad_capture_text end place fault) }
 {
-    let end = end.name();
+    let end = end_name(end);
     let mut line = format!(in alloc; "siit: bad capture: {end} at {place}: ")?;
-    line.push_str(fault.name())?;
+    line.push_str(fault_name(fault))?;
     line.push('\n')?;
     Ok(line)
 }

@@ -1,24 +1,10 @@
 //! How a run of the program ended, as its caller sees it.
 ghost use Rattle.std.specs.Prelude.{◌≡◌};
 
+use siit_capture::CaptureFault;
+use siit_chain::End;
 use siit_config::ConfigFault;
 use siit_dns::DnsFault;
-
-/// One end of a chain of translators.
-#[derive(Clone, Copy, Debug, PartialEq, Eq)]
-pub enum End {
-    /// The end whose capture is read first.
-    Left,
-    /// The other end.
-    Right,
-}
-
-/// What is wrong with a capture.
-#[derive(Clone, Copy, Debug, PartialEq, Eq)]
-pub enum CaptureFault {
-    /// It has another form than the one that is read so far.
-    NotBuilt,
-}
 
 /// How a run of the program ended.
 #[derive(Clone, Copy, Debug, PartialEq, Eq)]
@@ -52,33 +38,6 @@ pub enum Status {
     },
     /// The configuration has no device of this number.
     NoDevice,
-}
-
-impl End {
-    ghost use Rattle.siit_top.specs.Texts.{end_name};
-
-    /// The name of the end, as it is printed.
-    pub fn name(&self) -> &'static str
-        ensures { result.now ≡ end_name self.now }
-    {
-        match self {
-            End::Left => "left",
-            End::Right => "right",
-        }
-    }
-}
-
-impl CaptureFault {
-    ghost use Rattle.siit_top.specs.Texts.{fault_name};
-
-    /// The name of the fault, as it is printed.
-    pub fn name(&self) -> &'static str
-        ensures { result.now ≡ fault_name self.now }
-    {
-        match self {
-            CaptureFault::NotBuilt => "NotBuilt",
-        }
-    }
 }
 
 impl Status {

@@ -13,6 +13,7 @@ ghost use Rattle.siit_top.specs.Words.{map_address, map_of};
 
 use crate::commands::Command;
 use crate::commands::ends::unread_status;
+use crate::commands::settings::{CONFIGURATION_WORD, MOST_CONFIGURATION};
 use crate::map_lines::line_of;
 use crate::status::Status;
 use siit_command::{Address, Unread, read_address, read_number, read_whole};
@@ -21,12 +22,6 @@ use siit_map::Mapping;
 use siit_roles::Settings;
 use siit_word::Files;
 use std::alloc::{AllocError, Global};
-
-/// The word that names CONFIG, counted from 0.
-const CONFIGURATION_WORD: u8 = 1;
-
-/// The most bytes that a configuration may have.
-const MOST_CONFIGURATION: usize = 1_048_576;
 
 /// How the command ended.
 #[derive(Clone, Copy)]

@@ -25,150 +25,15 @@ fn ran(rt: &impl Abort, alloc: Global, words: &[&str], files: &mut MemFiles) -> 
     (status.code(), line)
 }
 
-/// A part of a capture.
-#[derive(Clone, Copy)]
-enum Part {
-    Head,
-    RecordHead,
-    /// A TCP packet from 8.8.8.8 to 1.1.1.1.
-    Packet,
-    /// The same with TTL 1. Its header checksum is right again with the higher byte moved.
-    Expired,
-    Zeros,
-}
-
-fn bytes_of(part: Part) -> &'static [u8] {
-    match part {
-        Part::Head => &[
-            0xd4, 0xc3, 0xb2, 0xa1, 2, 0, 4, 0, 0, 0, 0, 0, 0, 0, 0, 0, 0, 0, 4, 0, 0x65, 0, 0, 0,
-        ],
-        Part::RecordHead => &[1, 0, 0, 0, 5, 0, 0, 0, 0x28, 0, 0, 0, 0x28, 0, 0, 0],
-        Part::Packet => &[
-            0x45, 0, 0, 0x28, 0, 1, 0, 0, 0x40, 6, 0x68, 0xbe, 8, 8, 8, 8, 1, 1, 1, 1, 0xc0, 0, 0,
-            0x50, 0, 0, 0, 1, 0, 0, 0, 0, 0x50, 2, 0x20, 0, 0xbd, 0x7f, 0, 0,
-        ],
-        Part::Expired => &[
-            0x45, 0, 0, 0x28, 0, 1, 0, 0, 1, 6, 0xa7, 0xbe, 8, 8, 8, 8, 1, 1, 1, 1, 0xc0, 0, 0,
-            0x50, 0, 0, 0, 1, 0, 0, 0, 0, 0x50, 2, 0x20, 0, 0xbd, 0x7f, 0, 0,
-        ],
-        Part::Zeros => &[0; 10],
-    }
-}
-
-const CARRIED: &[u8] = &[
-    0x4d, 0x3c, 0xb2, 0xa1, 2, 0, 4, 0, 0, 0, 0, 0, 0, 0, 0, 0, 0, 0, 4, 0, 0x65, 0, 0, 0, 1, 0, 0,
-    0, 0x88, 0x13, 0, 0, 0x3c, 0, 0, 0, 0x3c, 0, 0, 0, 0x60, 0, 0, 0, 0, 0x14, 6, 0x3f, 0, 0x64,
-    0xff, 0x9b, 0, 0, 0, 0, 0, 0, 0, 0, 8, 8, 8, 8, 0, 0x64, 0xff, 0x9b, 0, 0, 0, 0, 0, 0, 0, 0, 1,
-    1, 1, 1, 0xc0, 0, 0, 0x50, 0, 0, 0, 1, 0, 0, 0, 0, 0x50, 2, 0x20, 0, 0xbd, 0x7f, 0, 0,
-];
-
-/// Files with the capture "in", of which the calls with these numbers fail.
-fn with_capture(alloc: Global, parts: &[Part], fails: &[u64]) -> Result<MemFiles, AllocError> {
-    let mut capture = Vec::new(alloc);
-    for part in parts {
-        capture.extend_from_slice(bytes_of(*part))?;
-    }
-    let mut files = MemFiles::new(alloc);
-    match (files.put("in", &capture), files.fail_at(fails)) {
-        (Ok(()), Ok(())) => Ok(files),
-        _ => Err(AllocError),
-    }
-}
-
-/// The parts of IN, the numbers of the calls that fail, the exit status, what is printed, and how many bytes OUT has.
-///
-/// Two reads come first, and then the creation of OUT, its head and its records.
-const CAPTURES: &[(&[Part], &[u64], u8, &str, Option<usize>)] = &[
-    (
-        &[Part::Head, Part::RecordHead, Part::Packet],
-        &[],
-        0,
-        "end 1 0 0 1 0\n",
-        Some(100),
-    ),
-    (
-        &[
-            Part::Head,
-            Part::RecordHead,
-            Part::Packet,
-            Part::RecordHead,
-            Part::Expired,
-            Part::RecordHead,
-            Part::Packet,
-        ],
-        &[],
-        0,
-        "end 3 0 0 2 1\n",
-        Some(176),
-    ),
-    (&[Part::Head], &[], 0, "end 0 0 0 0 0\n", Some(24)),
-    (
-        &[Part::Head, Part::RecordHead, Part::Packet, Part::Zeros],
-        &[],
-        6,
-        "siit: bad capture: left at 0: NotBuilt\n",
-        None,
-    ),
-    (
-        &[],
-        &[],
-        6,
-        "siit: bad capture: left at 0: NotBuilt\n",
-        None,
-    ),
-    (
-        &[Part::Head, Part::RecordHead, Part::Packet],
-        &[0],
-        4,
-        "siit: read fault\n",
-        None,
-    ),
-    (
-        &[Part::Head, Part::RecordHead, Part::Packet],
-        &[2],
-        5,
-        "siit: write fault\n",
-        None,
-    ),
-    (
-        &[Part::Head, Part::RecordHead, Part::Packet],
-        &[4],
-        5,
-        "siit: write fault\n",
-        Some(24),
-    ),
-];
-
-/// The exit status of `wkp in out` over these files, and what the program prints.
-fn translated(rt: &impl Abort, alloc: Global, files: &mut MemFiles) -> (u8, Vec<u8>) {
-    ran(rt, alloc, &["wkp", "in", "out"], files)
-}
-
-#[test]
-fn translates_captures(rt: HostRuntime) {
-    for &(parts, fails, code, line, len) in CAPTURES {
-        let mut files = with_capture(rt.alloc(), parts, fails).expect(&rt, "memory");
-        let (status, printed) = translated(&rt, rt.alloc(), &mut files);
-        assert_eq!(rt; printed.as_slice(), line.as_bytes());
-        assert_eq!(rt; status, code);
-        assert!(rt; files.bytes_of("out").map(|held| held.len()) == len);
-    }
-}
-
-#[test]
-fn carries_one_packet(rt: HostRuntime) {
-    let parts = [Part::Head, Part::RecordHead, Part::Packet];
-    let mut files = with_capture(rt.alloc(), &parts, &[]).expect(&rt, "memory");
-    let (status, _) = translated(&rt, rt.alloc(), &mut files);
-    assert_eq!(rt; status, 0);
-    assert!(rt; files.bytes_of("out") == Some(CARRIED));
-}
-
 /// What a configuration is.
 #[derive(Clone, Copy)]
 enum Configuration {
     /// A border relay and an edge relay (RFC 7755, RFC 7756) with one table.
     Relays,
+    /// The same, and the border has a pool (RFC 6791).
+    Pool,
+    /// Eight plain translators.
+    Eight,
     /// The customer side of 464XLAT (RFC 6877).
     Customer,
     /// A symmetric chain of one device, with these lines more.
@@ -179,26 +44,52 @@ enum Configuration {
     Spaces(usize),
 }
 
-fn bytes_in(alloc: Global, configuration: Configuration) -> Result<Vec<u8>, AllocError> {
-    match configuration {
-        Configuration::Relays => text(
-            alloc,
-            "left = 4
+const BORDER: &str = "left = 4
 [[device]]
 role = \"border\"
 prefix = \"64:ff9b::/96\"
 eam = [[\"192.0.2.1/32\", \"2001:db8:6464::1/128\"]]
 address4 = \"192.0.2.254\"
 address6 = \"2001:db8:ffff::1\"
-[[device]]
+";
+
+const POOL: &str = "pool4 = [\"192.0.2.250\", \"192.0.2.251\"]
+";
+
+const EDGE: &str = "[[device]]
 role = \"edge\"
 prefix = \"64:ff9b::/96\"
 eam = [[\"192.0.2.1/32\", \"2001:db8:6464::1/128\"]]
 address4 = \"192.0.2.253\"
 address6 = \"2001:db8:ffff::2\"
-",
-            "",
-        ),
+";
+
+/// The first device of eight has the number 1 in its addresses, and so on.
+fn eight(alloc: Global) -> Result<Vec<u8>, AllocError> {
+    let mut bytes = text(alloc, "left = 4\n", "")?;
+    for number in 1..9u8 {
+        let device = format!(in alloc;
+            "[[device]]
+role = \"plain\"
+prefix = \"64:ff9b::/96\"
+address4 = \"203.0.113.{number}\"
+address6 = \"2001:db8:ffff::{number}\"
+"
+        )?;
+        bytes.extend_from_slice(device.as_bytes())?;
+    }
+    Ok(bytes)
+}
+
+fn bytes_in(alloc: Global, configuration: Configuration) -> Result<Vec<u8>, AllocError> {
+    match configuration {
+        Configuration::Relays => text(alloc, BORDER, EDGE),
+        Configuration::Pool => {
+            let mut bytes = text(alloc, BORDER, POOL)?;
+            bytes.extend_from_slice(EDGE.as_bytes())?;
+            Ok(bytes)
+        }
+        Configuration::Eight => eight(alloc),
         Configuration::Customer => text(
             alloc,
             "left = 4
@@ -377,6 +268,13 @@ const MAPPED: &[(Configuration, &str, &str, u8, &str)] = &[
         "::1",
         3,
         "siit: bad config: device 1: wrong kind tos\n",
+    ),
+    (
+        Configuration::Plain("pool4 = []"),
+        "1",
+        "::1",
+        3,
+        "siit: bad config: device 1: bad value pool4\n",
     ),
     (
         Configuration::Plain("mtu4 = 67"),
@@ -576,3 +474,5 @@ fn answers_queries(rt: HostRuntime) {
     );
     assert_eq!(rt; status, 9);
 }
+
+mod carried;

@@ -1,13 +1,14 @@
-use Rattle.std.proofs.Common.{◌≡◌, is_some, true, sym, ap, ◌∙◌}
-use Rattle.siit_top.specs.PlainCapture.{records_of}
-use Rattle.siit_top.proofs.WkpRuns.{wkp_stopped, wkp_unread}
+use Rattle.std.proofs.Math.Path.{fun_ext}
+use Rattle.siit_chain.specs.Outputs.{name_in}
+use Rattle.siit_running.specs.Inputs.{input_name}
+use Rattle.siit_top.proofs.CarryRuns.{own_none}
+use Rattle.siit_top.proofs.WkpRuns.{wkp_ended, wkp_no_room}
 use Rattle.siit_top.proofs.commands.wkp.wkp.Goals as goal
 
-pub returns-in-Err : goal.returns-in-Err
-returns-in-Err g c coming = wkp_unread c.in-Err.unread c.in-Err.ensures.only c.in-Err.ensures.unread
+pub carry-carried-requires-clause-none_of : goal.carry-carried-requires-clause-none_of
+carry-carried-requires-clause-none_of g c = own_none c.inputs_of.ensures c.outs_of.ensures c.requires
 
 pub returns : goal.returns
-returns g c coming =
-    let plain : is_some (records_of c.in-Ok.capture.items) ≡ true = sym (c.if-not-is_plain.ensures ∙ ap (λ x. is_some (records_of x)) c.deref.ensures.value) in
-    let stopped = c.in-Err-carry.ensures in
-    wkp_stopped c.in-Err-carry.stopped c.in-Ok.ensures.only c.in-Ok.ensures.read plain (rw c.deref-2.ensures.value at stopped.part) stopped.cause stopped.out
+returns g c =
+    rw c.carried_status.ensures
+    (wkp_ended c.carry-carried.result (input_name c.inputs_of.result) (name_in c.outs_of.result) c.in-Ok.ensures (fun_ext c.inputs_of.ensures) (fun_ext c.outs_of.ensures) c.carry-carried.ensures.only c.carry-carried.ensures.ends)

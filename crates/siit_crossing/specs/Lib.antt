@@ -1,0 +1,6 @@
+pub mod Across
+pub mod Carrying
+pub mod Entries
+pub mod Examples
+pub mod Laws
+pub mod Sent

@@ -1,0 +1,5 @@
+pub mod Pairs
+pub mod Across
+pub mod Same
+pub mod Laws
+pub mod Examples
