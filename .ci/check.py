@@ -307,7 +307,7 @@ def check_names(document, names):
     """Crates that are named exist; so do the calls and clauses that the page of proofs names."""
     text = read(document)
     for word in sorted(set(re.findall(r'`(siit_\w+)`', text)) - set(names)):
-        if word not in identifiers():
+        if word not in identifiers() and not (TOP / 'examples' / word).exists():
             fault(document, f'there is no crate or call {word}')
     if document.name == 'PROOFS.md':
         for word in sorted({word for entry in re.findall(r'`([\w:]+)`', text) for word in entry.split('::')} - identifiers() - set(names)):

@@ -1,9 +1,11 @@
 #!/usr/bin/env python3
-"""Compares what the examples expect with expected.py, and with the program as `rt try` builds it without a proof. Leaves no file behind.
+"""Compares what the examples expect with scripts that share nothing with siit, and with the program as `rt try` builds it without a proof.
+Leaves no file behind.
 
-The transcript of a folder, expected.txt, has `$ ./siit WORDS`, the line that is printed, and `status N` where that isn't 0. What a run
-writes to a file whose name begins with out, as out.pcap, has to be the folder's file of that name with expected in its place. expected.py judges no faulty configuration and no faulty words, and reads no configuration before
-Python 3.11. Without rt the program isn't asked.
+The transcript of a folder, expected.txt, has `$ ./siit WORDS`, the line that is printed, and `status N` where that isn't 0. What a command
+writes to out.pcap, or to out_left.pcap, has to be the folder's expected.pcap, or expected_left.pcap; what it writes to outleft.pcap or
+report.txt has to be the folder's file of that name. The scripts judge no faulty words and no faulty configuration, and read none at all before
+Python 3.11. Without rt the program isn't asked, and without tshark the captures that are written aren't dissected; a line says so.
 """
 import importlib.util
 import re
@@ -15,7 +17,7 @@ from pathlib import Path
 
 sys.dont_write_bytecode = True
 import dns_expected
-import expected
+import translator
 import worked_packets
 
 TOP = Path(__file__).resolve().parent.parent
@@ -27,22 +29,24 @@ class Case:
     def __init__(self, folder, words):
         self.folder, self.words, self.line, self.status = folder, words, "", 0
 
+    @property
     def outputs(self):
-        return [word for word in self.words if re.match(r"out[._]", word)]
+        """The names among the words that the command writes to, with the files that they have to equal."""
+        names = [word for word in self.words if re.fullmatch(r"out.*|report\.txt", word)]
+        return {name: self.folder / re.sub(r"^out(?=[._])", "expected", name) for name in names}
 
     def words_with(self, work):
-        """The words, with whole paths, and with the outputs in a folder."""
-        return [str(work / word if word in self.outputs() else TOP / word if word.startswith("examples/") else word) for word in self.words]
+        """The words, with whole paths and with the outputs in another folder."""
+        return [str(work / word if word in self.outputs else TOP / word if word.startswith("examples/") else word) for word in self.words]
 
     def differences(self, line, status, work):
         if line != self.line:
             yield f"printed {line!r}, expected {self.line!r}"
         if status != self.status:
             yield f"status {status}, expected {self.status}"
-        for name in self.outputs():
-            out, whole = work / name, self.folder / name.replace("out", "expected", 1)
-            is_written = self.status == 0
-            if out.exists() != is_written or is_written and out.read_bytes() != whole.read_bytes():
+        for name, expected_file in self.outputs.items():
+            out, is_written = work / name, self.status == 0
+            if out.exists() != is_written or is_written and out.read_bytes() != expected_file.read_bytes():
                 yield f"{name} isn't as expected"
 
 
@@ -61,22 +65,16 @@ def read_cases():
 
 def is_for_script(case):
     has_toml = importlib.util.find_spec("tomllib") is not None
-    return case.words[0] == "wkp" or has_toml and not case.line.startswith(("siit: bad config", "siit: bad words"))
+    return (has_toml or case.words[0] not in ("run", "map")) and not case.line.startswith(("siit: bad config", "siit: bad words"))
 
 
 def by_script(case, work):
-    """The line of expected.py and the status that goes with it."""
+    """The line that a script prints, and the status that goes with it."""
     command, *words = case.words_with(work)
-    line = {
-        "run": expected.run,
-        "wkp": expected.wkp,
-        "map": expected.map_address,
-        "discover": dns_expected.discover_line,
-        "dns64": dns_expected.dns64_line,
-    }[command](*words)
-    if line.startswith("siit: bad message: "):
-        return line + "\n", 9
-    return line + "\n", {"siit: no device": 10}.get(line, 0)
+    if command in translator.COMMANDS:
+        return translator.COMMANDS[command](*words)
+    line = {"discover": dns_expected.discover_line, "dns64": dns_expected.dns64_line}[command](*words)
+    return line + "\n", 9 if line.startswith("siit: bad message: ") else 0
 
 
 def by_program(cases, work):
@@ -84,9 +82,10 @@ def by_program(cases, work):
     folder = work / "cases"
     folder.mkdir()
     for number, case in enumerate(cases):
+        out = work / f"{number:02}"
+        out.mkdir()
         (folder / f"{number:02}").touch()
-        (work / f"{number:02}").mkdir()
-        (folder / f"{number:02}.args").write_text("\n".join(case.words_with(work / f"{number:02}")) + "\n")
+        (folder / f"{number:02}.args").write_text("\n".join(case.words_with(out)) + "\n")
     run = subprocess.run(
         ["rt", "try", "--cases", str(folder)],
         cwd=TOP / "crates/siit",
@@ -100,6 +99,20 @@ def by_program(cases, work):
     return [(line, int(status)) for _, line, status in answers]
 
 
+# What a capture of right packets doesn't show. Where a quote is cut short, tshark takes the checksum of its TCP for wrong: that isn't asked.
+FAULTS = " || ".join(
+    ["_ws.malformed", "(tcp.checksum.status == 0 && !icmp && !icmpv6)"]
+    + [f"{protocol}.checksum.status == 0" for protocol in ("ip", "udp", "icmp", "icmpv6")]
+)
+
+
+def faulty_packets(capture):
+    """What tshark says of malformed packets and wrong checksums in a capture. It joins fragments, and checks the UDP checksum of the whole."""
+    options = ["ip.check_checksum:TRUE", "tcp.check_checksum:TRUE", "udp.check_checksum:TRUE", "tcp.desegment_tcp_streams:FALSE"]
+    words = ["tshark", "-n", "-r", str(capture), "-Y", FAULTS, *(word for option in options for word in ("-o", option))]
+    return subprocess.run(words, check=True, stdout=subprocess.PIPE, stderr=subprocess.DEVNULL, text=True).stdout
+
+
 def main():
     worked_packets.main()
     cases = read_cases()
@@ -111,16 +124,23 @@ def main():
             print(f"examples: {who}: siit {' '.join(case.words)}: {difference}")
             failed = True
 
-    with tempfile.TemporaryDirectory() as name:
-        work = Path(name)
-        for number, case in enumerate(cases):
-            if is_for_script(case):
-                own = work / f"script{number:02}"
-                own.mkdir()
-                compare("expected.py", case, by_script(case, own), own)
-        if shutil.which("rt"):
-            for number, answer in enumerate(by_program(cases, work)):
-                compare("the program", cases[number], answer, work / f"{number:02}")
+    for case in filter(is_for_script, cases):
+        with tempfile.TemporaryDirectory() as work:
+            compare("the script", case, by_script(case, Path(work)), Path(work))
+    if shutil.which("rt"):
+        with tempfile.TemporaryDirectory() as work:
+            for number, answer in enumerate(by_program(cases, Path(work))):
+                compare("the program", cases[number], answer, Path(work) / f"{number:02}")
+    else:
+        print("examples: rt isn't there: the program wasn't asked")
+    if shutil.which("tshark"):
+        for capture in sorted({path for case in cases if case.status == 0 for path in case.outputs.values() if path.suffix == ".pcap"}):
+            faults = faulty_packets(capture)
+            if faults:
+                print(f"examples: tshark: {capture}:\n{faults}", end="")
+                failed = True
+    else:
+        print("examples: tshark isn't there: the captures weren't dissected")
     if failed:
         sys.exit(1)
     print(f"examples: {len(cases)} commands answer as expected")

@@ -5,7 +5,7 @@ import struct
 import sys
 
 sys.dont_write_bytecode = True
-from translator import Device, Run, Six, checksum, header4, header6, pseudo6, put16, u16
+from translator import EMPTY, Device, Packet6, Run, checksum, get16, header4, header6, pseudo6, put16
 
 ENTRY = [['192.0.2.1/32', '2001:db8:6464::1/128']]
 BORDER = {'role': 'border', 'prefix': '64:ff9b::/96', 'eam': ENTRY, 'address4': '192.0.2.254', 'address6': '2001:db8:ffff::1'}
@@ -29,7 +29,8 @@ LEAVING = words('45000028 00010000 3e06aabe 08080808 c0000201 c0000050 00000001 
 
 
 def event(settings, side, packet):
-    return Device(settings).event(side, packet)
+    way, packets, drop = Device(settings).event(side, packet)
+    return way, packets, drop and (drop[0].name, drop[1])
 
 
 def from_eights(protocol, payload, flags=0):
@@ -44,7 +45,7 @@ def check_tcp():
 def check_bare_udp():
     datagram = words('10000035 000c0000 61626364')
     assert event(BORDER, 4, from_eights(17, datagram))[2] == ('UdpZero4', False)
-    assert u16(event({**BORDER, 'udp_zero': 'compute'}, 4, from_eights(17, datagram))[1][0], 46) == 0x88ac
+    assert get16(event({**BORDER, 'udp_zero': 'compute'}, 4, from_eights(17, datagram))[1][0], 46) == 0x88ac
     assert event(BORDER, 4, from_eights(17, datagram + bytes(4), 1))[2] == ('UdpZeroFragment4', False)
     assert event(BORDER, 4, from_eights(17, datagram, 1))[2] == ('FragmentShape4', False)
 
@@ -53,7 +54,7 @@ def check_sizes():
     long = words('10000035 05c81234') + bytes(1472)
     assert [len(piece) for piece in event(BORDER, 4, from_eights(17, long))[1]] == [1280, 296]
     way, packets, drop = event(BORDER, 4, from_eights(6, bytes(1480), 2))
-    assert (way, drop, len(packets[0]), u16(packets[0], 26)) == ('back', ('TooBig4', True), 576, 1480)
+    assert (way, drop, len(packets[0]), get16(packets[0], 26)) == ('back', ('TooBig4', True), 576, 1480)
 
 
 def check_errors():
@@ -63,7 +64,7 @@ def check_errors():
     extended = words('0b000000 00200000') + ARRIVING + bytes(88) + words('2000ddf4 00080101 00010101')
     extended = put16(extended, 2, checksum(extended))
     there = event(BORDER, 4, from_eights(1, extended))[1][0]
-    assert (there[40], there[44], u16(there, 4), there[-12:]) == (3, 16, 148, extended[-12:])
+    assert (there[40], there[44], get16(there, 4), there[-12:]) == (3, 16, 148, extended[-12:])
     back = event(EDGE, 6, there)[1][0]
     assert (len(back), back[25], back[-12:]) == (168, 32, extended[-12:])
 
@@ -71,9 +72,9 @@ def check_errors():
 def check_expired():
     """Answered by the edge, and carried back through the border."""
     packet = put16(put16(ARRIVING, 8, 0x0206), 10, 0xa6be)
-    capture = struct.pack('<IHHIIII', 0xa1b23c4d, 2, 4, 0, 0, 262144, 101) + struct.pack('<4I', 1, 5, len(packet), len(packet)) + packet
+    capture = EMPTY + struct.pack('<4I', 1, 5, len(packet), len(packet)) + packet
     run = Run(4, [Device(BORDER), Device(EDGE)])
-    assert run.all(capture, b'') == 'end 1 0 1 0 1\n'
+    assert run.all(capture, EMPTY) == ('end 1 0 1 0 1\n', 0)
     assert run.report[0] == 'L 1 2 58 Expired6 icmp6/3/0\n'
     assert run.out['L'][1][16:] == words('45000044 00010000 3f01a8aa c00002fe 08080808 0b00c72b 00000000 45000028 00000000 0106e7bf '
                                          '08080808 c0000201 c0000050 00000001 00000000 50022000 fd7f0000')
@@ -84,13 +85,13 @@ def check_hairpin():
     under = lambda a: six('2001:db8:46::') + a
     sent = header6(0, 0, 8, 17, 64, first, under(0xc0000202)) + words('10000035 00085555')
     way, packets, drop = event(HAIRPIN, 6, sent)
-    turned = Six(packets[0])
-    assert (way, drop, turned.source, turned.destination, u16(turned.payload, 6)) == ('back', None, under(0xc0000201), second, 0x5554)
+    turned = Packet6(packets[0])
+    assert (way, drop, turned.source, turned.destination, get16(turned.payload, 6)) == ('back', None, under(0xc0000201), second, 0x5554)
     message = bytes([1, 4, 0, 0, 0, 0, 0, 0]) + packets[0]
     message = put16(message, 2, checksum(pseudo6(second, under(0xc0000201), 58, len(message)) + message))
-    error = Six(event(HAIRPIN, 6, header6(0, 0, len(message), 58, 64, second, under(0xc0000201)) + message)[1][0])
-    quoted = Six(error.payload[8:])
-    assert (error.destination, quoted.source, quoted.destination, u16(quoted.payload, 6)) == (first, first, under(0xc0000202), 0x5555)
+    error = Packet6(event(HAIRPIN, 6, header6(0, 0, len(message), 58, 64, second, under(0xc0000201)) + message)[1][0])
+    quoted = Packet6(error.payload[8:])
+    assert (error.destination, quoted.source, quoted.destination, get16(quoted.payload, 6)) == (first, first, under(0xc0000202), 0x5555)
 
 
 def main():

@@ -30,7 +30,7 @@ use Rattle.siit_cutting.specs.Laws.{HasAddresses6, given_to_4}
 use Rattle.siit_crossing.specs.Across.{GoesTo6, IsPassage, Passage, RecordsCrossBoth, all_between, all_entering, read_again, two_devices}
 use Rattle.siit_crossing.specs.Carrying.{Captured, packet_entering}
 use Rattle.siit_crossing.specs.Laws.{NoneTurnsInPairs, NoneTurnsOf, UnnamedRecordsCrossBoth}
-use Rattle.siit_pair.specs.Laws.{AreReversible, FragmentsComeAcross, PassesBoth}
+use Rattle.siit_pair.specs.Laws.{AreReversible, FragmentsComeAcross, PacketsBehindAreRead, PassesBoth}
 use Rattle.siit_pair.specs.Pairs.{IsPair}
 use Rattle.siit_delivery.specs.Deliveries.{Delivers, IsDelivered, IsSentAs}
 use Rattle.siit_delivery.specs.Laws.{PairsDeliver}
@@ -78,9 +78,9 @@ packets_are first entered packets goes are_read =
 -- WHAT LEAVES
 
 delivered : (coming : ℕ → ℕ → ℕ) (end : End) (first second : Settings) (capture : Records) (records : List Captured) (d : Ipv4Packet) (log : List Entry)
-    → FragmentsComeAcross → ShareTable first second → RecordsCrossBoth coming end first second records log
+    → FragmentsComeAcross → PacketsBehindAreRead → ShareTable first second → RecordsCrossBoth coming end first second records log
     → IsSentAs capture records d → AreReversible first.mapping d → IsDelivered first second end records d log
-delivered coming end first second capture records d log law one crosses sent reversible =
+delivered coming end first second capture records d log law reading one crosses sent reversible =
     let between = all_between crosses.passages in
     let entered = entered_is coming end first second crosses.passages records sent.entered crosses.records_are crosses.each sent.enter in
     let goes = crosses.first_goes in
@@ -97,10 +97,14 @@ delivered coming end first second capture records d log law one crosses sent rev
     } in
     let out = law first second d (all_entering crosses.passages) between (alike first second one) one.first_limits one.second_limits
     sent.good sent.whole reversible addresses covers passes in
+    let again = reading first second d (all_entering crosses.passages) between (alike first second one) one.first_limits one.second_limits
+    sent.good sent.whole reversible addresses covers passes in
     let same = sym (flat_map-map (given_to_4 second) (λ x. (read_again x.0, x.1)) between) ∙ ap (flat_map (given_to_4 second)) out.is_read in
+    let far = crosses.far ∙ ap (map ipv4_bytes) same in
     record {
       packets = flat_map (given_to_4 second) between;
-      far = crosses.far ∙ ap (map ipv4_bytes) same;
+      far = far;
+      read = ap (map ipv4_of) far ∙ again;
       near = crosses.near;
       joined = out.covers;
       same = out.same;
@@ -136,17 +140,17 @@ swapped border edge one = record {
 reversible_there : (border edge : Settings) → ShareTable border edge → (d : Ipv4Packet) → AreReversible border.mapping d → AreReversible edge.mapping d
 reversible_there border edge one d reversible = subst (λ (m : Mapping). AreReversible m d) (alike border edge one) reversible
 
-both_deliver : (border edge : Settings) (coming : ℕ → ℕ → ℕ) (left right : Records) → UnnamedRecordsCrossBoth → NoneTurnsInPairs → FragmentsComeAcross
+both_deliver : (border edge : Settings) (coming : ℕ → ℕ → ℕ) (left right : Records) → UnnamedRecordsCrossBoth → NoneTurnsInPairs → FragmentsComeAcross → PacketsBehindAreRead
     → ShareTable border edge → (run_of (two_devices border edge) coming left right).course ≡ finished
     → Delivers border edge left right (run_of (two_devices border edge) coming left right).trace.log
-both_deliver border edge coming left right crossing turning law one done Left records d sent reversible unnamed =
-    delivered coming Left border edge left records d (run_of (two_devices border edge) coming left right).trace.log law one
+both_deliver border edge coming left right crossing turning law reading one done Left records d sent reversible unnamed =
+    delivered coming Left border edge left records d (run_of (two_devices border edge) coming left right).trace.log law reading one
     (crossing border edge coming left right done Left records sent.captured unnamed (none_turn border edge left records d turning one sent reversible))
     sent reversible
-both_deliver border edge coming left right crossing turning law one done Right records d sent reversible unnamed =
+both_deliver border edge coming left right crossing turning law reading one done Right records d sent reversible unnamed =
     let other = swapped border edge one in
     let back = reversible_there border edge one d reversible in
-    delivered coming Right edge border right records d (run_of (two_devices border edge) coming left right).trace.log law other
+    delivered coming Right edge border right records d (run_of (two_devices border edge) coming left right).trace.log law reading other
     (crossing border edge coming left right done Right records sent.captured unnamed (none_turn edge border right records d turning other sent back))
     sent back
 
@@ -181,9 +185,9 @@ one_table law bytes chain config pair =
 network_is : (chain : Chain) (pair : IsPair chain) → network chain ≡ two_devices pair.border pair.edge
 network_is chain pair = rw (pair.left, pair.devices) refl
 
-pub pairs_do_deliver : AcceptedChainsAreGood → UnnamedRecordsCrossBoth → NoneTurnsInPairs → FragmentsComeAcross → PairsDeliver
-pairs_do_deliver accepted crossing turning law bytes chain config pair coming left right done =
+pub pairs_do_deliver : AcceptedChainsAreGood → UnnamedRecordsCrossBoth → NoneTurnsInPairs → FragmentsComeAcross → PacketsBehindAreRead → PairsDeliver
+pairs_do_deliver accepted crossing turning law reading bytes chain config pair coming left right done =
     let is = network_is chain pair in
     let there = subst (λ n. (run_of n coming left right).course ≡ finished) is done in
     subst (λ n. Delivers pair.border pair.edge left right (run_of n coming left right).trace.log) (sym is)
-    (both_deliver pair.border pair.edge coming left right crossing turning law (one_table accepted bytes chain config pair) there)
+    (both_deliver pair.border pair.edge coming left right crossing turning law reading (one_table accepted bytes chain config pair) there)

@@ -37,11 +37,13 @@ AreUnnamed end records log = All (λ r. IsUnnamed end r.number log) records
 abbrev pub entries_about : End → List Captured → List Entry → List Entry
 entries_about end records log = entries_of_records end (map (λ r. r.number) records) log
 
--- What was written of them at the far end joins to the datagram that both devices make of this one, the same in all but
--- what is listed, with the identification of the first packet written; and nothing was written at the near end.
+-- What was written of them at the far end is read as packets that join to the datagram that both devices make of this
+-- one, the same in all but what is listed, with the identification of the first packet written; and nothing was written
+-- at the near end.
 pub record IsDelivered (first second : Settings) (end : End) (records : List Captured) (d : Ipv4Packet) (log : List Entry) : Type 0 where
   pub packets : List Ipv4Packet
   pub far : packets_leaving (other_end end) (entries_about end records log) ≡ map ipv4_bytes packets
+  pub read : map ipv4_of (packets_leaving (other_end end) (entries_about end records log)) ≡ map (λ packet. Some packet) packets
   pub near : packets_leaving end (entries_about end records log) ≡ []
   pub joined : Covers4 (across first second d (first_id packets)) packets
   pub same : is_same_from first second d (across first second d (first_id packets)) ≡ true
