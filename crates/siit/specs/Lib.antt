@@ -1,2 +1,4 @@
+pub mod Appending
+pub mod FileWords
 pub mod OwnWords
 pub mod Disk

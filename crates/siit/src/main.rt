@@ -1,14 +1,21 @@
 //! The program `siit`: it hands its words and the files of the system to the top call, and reports how that ended.
 #![tactic(auto)]
 
+mod appender;
 mod disk;
+mod failure;
+mod file_id;
+mod file_words;
 mod own_words;
+mod reader;
 
 ghost use Rattle.siit_top.specs.Texts.{status_code};
-ghost use Rattle.std.specs.Prelude.{◌≡◌, ◌≢◌, ◌⊎◌, ◌≤◌, [], All, IfErr, OnErr, OnOk};
+ghost use Rattle.std.specs.Prelude.{◌≡◌, ◌≢◌, ◌⊎◌, ◌≤◌, [], All, IfErr, None, OnErr, OnOk};
 
 use crate::disk::DiskFiles;
-use crate::own_words::own_word;
+use crate::failure::{Action, Cause, Failure};
+use crate::file_words::file_words;
+use crate::own_words::{USAGE, own_word};
 use siit_top::{Status, siit_main, status_line};
 use siit_word::{Counter, Failed, NoMemory};
 use std::alloc::Global;
@@ -28,10 +35,13 @@ fn run<R: Runtime + AllocGlobal>(rt: &R) -> u8
 {
     let words = match words_of(rt) {
         Ok(words) => words,
-        Err(status) => return report(rt, status),
+        Err(status) => {
+            explain(rt, &status, None);
+            return report(rt, status);
+        }
     };
     match own_word(&words) {
-        Some(word) => print(rt, word.text().as_bytes(), Status::Ok),
+        Some(word) => finish(rt, Status::Ok, write_texts(rt, word.texts())),
         None => run_command(rt, &words),
     }
 }
@@ -64,21 +74,26 @@ fn run_command<R: Runtime + AllocGlobal>(rt: &R, words: &[String]) -> u8
     let Ok(own) = rt.clone() else {
         return report(rt, Status::NoMemory);
     };
+    let mut files = DiskFiles::new(own, alloc, file_words(words));
     let mut out = Vec::new(alloc);
-    match run_over(alloc, words, &mut DiskFiles::new(own, alloc), &mut out) {
-        Status::Ok => print(rt, &out, Status::Ok),
+    let status = run_over(alloc, words, &mut files, &mut out);
+    explain(rt, &status, files.failure());
+    match status {
+        Status::Ok => finish(rt, Status::Ok, rt.write_all(&out)),
         status => report(rt, status),
     }
 }
 
-/// Does what the words ask over these files. After `Ok` no byte that was appended waits to be written.
+/// Does what the words ask over these files. Afterwards no byte that was appended waits to be written, and after `Ok`
+/// none was lost.
 fn run_over<R: rt::Files>(
     alloc: Global,
     words: &[String],
-    files: &mut DiskFiles<R>,
+    files: &mut DiskFiles<'_, R>,
     out: &mut Vec<u8>,
 ) -> Status
-    ensures { result ≡ Status.Ok → All (λ a. a.gathered.items ≡ []) files.new.appenders.items }
+    ensures written { All (λ a. a.gathered.items ≡ []) files.new.appenders.items }
+    ensures whole { result ≡ Status.Ok → All (λ a. a.lost ≡ None) files.new.appenders.items }
 {
     let status = siit_main(alloc, words, files, &mut Counter::new(), out);
     ended(status, files.flush())
@@ -96,30 +111,53 @@ fn ended(status: Status, flushed: Result<(), Failed>) -> Status
     }
 }
 
+/// Says on standard error what a status leaves open: which file failed in what and why, or how the program is called.
+fn explain<R: Eprint>(rt: &R, status: &Status, failure: Option<&Failure>) {
+    match status {
+        Status::Ok => {}
+        Status::BadWords => {
+            let _ = rt.eprint(USAGE);
+        }
+        _ => say(rt, failure),
+    }
+}
+
+fn say<R: Eprint>(rt: &R, failure: Option<&Failure>) {
+    if let Some(failure) = failure {
+        let _ = eprintln!(rt; "siit: {failure}");
+    }
+}
+
+/// Prints texts, one behind the other.
+fn write_texts<R: Print>(rt: &R, texts: [&str; 2]) -> io::Result<()> {
+    for text in texts {
+        rt.write_all(text.as_bytes())?;
+    }
+    Ok(())
+}
+
 /// Prints the line of a status, and answers its code.
 fn report<R: Runtime + AllocGlobal>(rt: &R, status: Status) -> u8
     ensures { (result ≡ status_code status) ⊎ (result ≡ status_code Status.WriteFault) }
 {
     match status_line(rt.alloc(), &status) {
-        Ok(line) => print(rt, &line, status),
+        Ok(line) => finish(rt, status, rt.write_all(&line)),
         Err(NoMemory) => status.code(),
     }
 }
 
-/// Prints a text, and answers the exit status.
-fn print<R: Print>(rt: &R, text: &[u8], status: Status) -> u8
-    ensures { (result ≡ status_code status) ⊎ (result ≡ status_code Status.WriteFault) }
-{
-    exit_code(status, rt.write_all(text))
-}
-
-/// The code of the status, or that of a write fault where its text wasn't printed.
-fn exit_code(status: Status, printed: io::Result<()>) -> u8
+/// Answers the exit status, once the text of a status was printed, or not.
+fn finish<R: Eprint + AllocGlobal>(rt: &R, status: Status, printed: io::Result<()>) -> u8
     ensures printed { OnOk printed (result ≡ status_code status) }
     ensures lost { OnErr printed (result ≡ status_code Status.WriteFault) }
 {
     match printed {
         Ok(()) => status.code(),
-        Err(_) => Status::WriteFault.code(),
+        Err(error) => {
+            let cause = Cause::Error(error);
+            let failure = Failure::new(rt.alloc(), Action::Writing, "standard output", cause);
+            say(rt, failure.as_ref());
+            Status::WriteFault.code()
+        }
     }
 }
