@@ -12,6 +12,9 @@ use Rattle.siit_eamt.proofs.Longest.{IsLongestOf, IsLongestOf-longest}
 pub accepted-parts : (xs : List Eam) → table_fault xs ≡ None → (length xs ≤ 65536) × (first_fault [] xs ≡ None)
 accepted-parts xs h = (grind (arith, nat_tests, h), grind (arith, nat_tests, h))
 
+pub accepted_from_parts : (xs : List Eam) → length xs ≤ 65536 → first_fault [] xs ≡ None → table_fault xs ≡ None
+accepted_from_parts xs few h = grind (arith, nat_tests, few, h)
+
 option_or-none : {X : Type 0} (a b : Option X) → option_or a b ≡ None → (a ≡ None) × (b ≡ None)
 option_or-none None b h = (refl, h)
 option_or-none (Some x) b h = absurd cc
@@ -28,9 +31,12 @@ good_from_first before (x ∷ rest) h (suc k) e at =
     let parts = option_or-none _ _ h in
     good_from_first (before ++ x ∷ []) rest parts.1 k e at
 
+pub good_from_faultless : (xs : List Eam) → first_fault [] xs ≡ None → (k : ℕ) (e : Eam) → slice_get xs k ≡ Some e → is_good e ≡ true
+good_from_faultless xs h = good_from_first [] xs h
+
 -- each entry of an accepted table is good
 pub good_from_accepted : (xs : List Eam) → table_fault xs ≡ None → (k : ℕ) (e : Eam) → slice_get xs k ≡ Some e → is_good e ≡ true
-good_from_accepted xs h = good_from_first [] xs (accepted-parts xs h).1
+good_from_accepted xs h = good_from_faultless xs (accepted-parts xs h).1
 
 -- the entry that is longest holds the address
 pub held_from_longest : (holds : Eam → Bool) (len : Eam → ℕ) (xs : List Eam) (i : ℕ) (e : Eam) → longest holds len xs ≡ Some (i, e)

@@ -14,3 +14,10 @@ pub mod Neighbours
 pub mod Disjoint
 pub mod DisjointLemmas
 pub mod Orders
+pub mod Spacings
+pub mod Lying
+pub mod StartsLemmas
+pub mod Filling
+pub mod Cut
+pub mod Families
+pub mod Found

@@ -4,3 +4,6 @@ pub mod Disjoint
 pub mod Standing
 pub mod Table
 pub mod Trie
+pub mod Starts
+pub mod Intervals
+pub mod Cutting

@@ -2,8 +2,14 @@
 #![tactic(auto)]
 
 mod apart;
+mod buckets;
+mod cutting;
 mod entry;
+mod interval;
+mod intervals;
 mod sorted;
+mod spacing;
+mod starts;
 mod steps;
 mod table;
 mod trie;

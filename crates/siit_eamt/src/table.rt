@@ -7,10 +7,11 @@ ghost use Rattle.siit_eamt.specs.Faults.{table_fault};
 ghost use Rattle.siit_eamt.specs.declared.entry.EamFault.TheVariants.{NoMemory, TooMany};
 
 use crate::apart::{are_apart4, are_apart6, are_clear_of};
+use crate::cutting::{intervals4, intervals6};
 use crate::entry::{Eam, EamFault, Hit4, Hit6};
+use crate::intervals::Intervals;
 use crate::sorted::{sorted4, sorted6};
 use crate::steps::Steps;
-use crate::trie::Bits;
 use crate::tries::Tries;
 use siit_addr::{Addr4, Addr6, Prefix4, Prefix6};
 use std::alloc::Global;
@@ -21,7 +22,8 @@ use std::sync::ledger::Ledger;
 #[derive(Drop)]
 pub struct Eamt {
     pub(crate) entries: Vec<Eam>,
-    pub(crate) tries: Tries,
+    pub(crate) intervals4: Intervals,
+    pub(crate) intervals6: Intervals,
     pub(crate) sorted4: Vec<Prefix4>,
     pub(crate) sorted6: Vec<Prefix6>,
 }
@@ -35,8 +37,7 @@ impl Model for Eamt {
 
     ghost view = { λ t. t.entries.items };
 
-    ghost invariant = { λ t.
-        IsTable t.entries.items t.tries.trie4.nodes.items t.tries.trie6.nodes.items t.sorted4.items t.sorted6.items };
+    ghost invariant = { λ t. IsTable t.entries.items t.intervals4 t.intervals6 t.sorted4.items t.sorted6.items };
 }
 
 /// How many entries a table may have.
@@ -56,12 +57,15 @@ impl Eamt {
             return Err(EamFault::TooMany);
         }
         let tries = Tries::build(alloc, entries)?;
+        let intervals4 = intervals4(alloc, entries, &tries.trie4)?;
+        let intervals6 = intervals6(alloc, entries, &tries.trie6)?;
         let sorted4 = sorted4(alloc, entries)?;
         let sorted6 = sorted6(alloc, entries)?;
         let entries = Vec::from_slice(alloc, entries)?;
         Ok(Eamt {
             entries,
-            tries,
+            intervals4,
+            intervals6,
             sorted4,
             sorted6,
         })
@@ -76,14 +80,13 @@ impl Eamt {
     }
 
     /// The entry of greatest IPv4 length among all that hold the address, and the IPv6 address (RFC 7757 section
-    /// 3.3.1). `None` where no entry holds it. Each node of the trie that is read counts as one step, and so does the
-    /// entry that is answered.
+    /// 3.3.1). `None` where no entry holds it. Each bucket, interval or entry that is read counts as one step.
     pub fn find4<L: Ledger>(&self, a: Addr4, steps: &mut Steps<L>) -> Option<Hit6>
         ensures found { option_map (λ hit. (hit.entry, hit.address.0)) result ≡ entry_to_6 self.now a.0 }
         ensures cost { steps.new ≤ steps.old + 34 }
         ensures counted { steps.old ≤ steps.new }
     {
-        let Some(entry) = self.tries.trie4.longest(Bits::of4(a), steps) else {
+        let Some(entry) = self.intervals4.find(u128::from(a.0), steps) else {
             return None;
         };
         let eam = self.read(entry, steps);
@@ -94,14 +97,13 @@ impl Eamt {
     }
 
     /// The entry of greatest IPv6 length among all that hold the address, and the IPv4 address (RFC 7757 section
-    /// 3.3.2). `None` where no entry holds it. Each node of the trie that is read counts as one step, and so does the
-    /// entry that is answered.
+    /// 3.3.2). `None` where no entry holds it. Each bucket, interval or entry that is read counts as one step.
     pub fn find6<L: Ledger>(&self, x: Addr6, steps: &mut Steps<L>) -> Option<Hit4>
         ensures found { option_map (λ hit. (hit.entry, hit.address.0)) result ≡ entry_to_4 self.now x.0 }
         ensures cost { steps.new ≤ steps.old + 130 }
         ensures counted { steps.old ≤ steps.new }
     {
-        let Some(entry) = self.tries.trie6.longest(Bits::of6(x), steps) else {
+        let Some(entry) = self.intervals6.find(x.0, steps) else {
             return None;
         };
         let eam = self.read(entry, steps);

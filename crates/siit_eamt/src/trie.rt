@@ -3,10 +3,8 @@ ghost use Rattle.std.specs.Prelude.{ℕ, not, ◌≡◌, true, false, ◌+◌, �
 ghost use Rattle.std.specs.List.{slice_get};
 ghost use Rattle.siit_eamt.specs.Trie.{IsGrown, IsSameTrie, IsTrie, reach, with_place, place_at, number_in, child_at, child_of, first_bits, is_odd, longest_place, place_of, place_under};
 
-use crate::steps::Steps;
 use siit_addr::{Addr4, Addr6};
 use std::alloc::{AllocError, Global};
-use std::sync::ledger::Ledger;
 
 /// The bits of an address, of which there are 32 or 128.
 #[derive(Clone, Copy)]
@@ -36,6 +34,14 @@ pub(crate) struct Trie {
 }
 
 impl Bits {
+    /// The bits of a number of so many bits.
+    pub(crate) fn new(address: u128, width: u8) -> Bits
+        ensures address { result.address ≡ address }
+        ensures width { result.width ≡ width }
+    {
+        Bits { address, width }
+    }
+
     pub(crate) fn of4(a: Addr4) -> Bits
         ensures address { result.address ≡ a.0 }
         ensures width { result.width ≡ 32 }
@@ -190,34 +196,29 @@ impl Trie {
         Ok(child)
     }
 
-    /// The place at the longest prefix of an address at which one stands. Each node that is read counts as one step.
-    pub(crate) fn longest<L: Ledger>(&self, bits: Bits, steps: &mut Steps<L>) -> Option<u32>
+    /// The place at the longest prefix of an address at which one stands.
+    pub(crate) fn longest(&self, bits: Bits) -> Option<u32>
         requires shape { IsTrie self.now.nodes.items }
         requires width { bits.width ≤ 128 }
         requires address { bits.address < 2 ^ bits.width }
-        ensures found { result ≡ longest_place (place_under self.now.nodes.items) bits.width bits.address bits.width }
-        ensures cost { steps.new ≤ steps.old + bits.width + 1 }
-        ensures counted { steps.old ≤ steps.new }
+        ensures { result ≡ longest_place (place_under self.now.nodes.items) bits.width bits.address bits.width }
     {
-        let mut node = self.read(0, steps);
+        let mut node = self.read(0);
         let mut longest = node.place();
         for behind in 0..bits.width {
             let Some(child) = node.child(bits.bit(behind)) else {
                 return longest;
             };
-            node = self.read(child, steps);
+            node = self.read(child);
             longest = node.place().or(longest);
         }
         longest
     }
 
-    /// A node. It is the only way in which a look-up reads the trie, and one step.
-    fn read<L: Ledger>(&self, at: u32, steps: &mut Steps<L>) -> Node
+    fn read(&self, at: u32) -> Node
         requires { at < length self.now.nodes.items }
-        ensures node { slice_get self.now.nodes.items at ≡ Some result }
-        ensures step { steps.new ≡ steps.old + 1 }
+        ensures { slice_get self.now.nodes.items at ≡ Some result }
     {
-        steps.tick();
         self.nodes[at as usize]
     }
 }

@@ -8,3 +8,6 @@ mod outputs;
 pub use crossing::carry_captures;
 pub use devices::chain_of;
 pub use outputs::create_outputs;
+
+#[cfg(test)]
+mod tests;

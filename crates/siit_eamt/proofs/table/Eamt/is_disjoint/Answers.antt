@@ -11,7 +11,7 @@ returns-then-are_apart6 c =
     is_the_test _ _ _ (elim c.if-are_apart4.branch [
       | then-are_apart4 w ↦ (
         λ clear. subst (λ xs. IsDisjoint xs prefix) c.self.view_is
-            (disjoint_from_neighbours inside.entries.items inside.tries.trie4.nodes.items inside.tries.trie6.nodes.items inside.sorted4.items inside.sorted6.items prefix c.self.invariant
+            (disjoint_from_neighbours inside.entries.items inside.intervals4 inside.intervals6 inside.sorted4.items inside.sorted6.items prefix c.self.invariant
             (subst NeighboursApart4 c.deref.ensures.value (w.if-are_apart4.ensures.0 refl))
             (subst NeighboursApart6 w.deref-then-are_apart4.ensures.value (w.are_apart6.ensures.0 cc))
             (subst (λ xs. AllClear xs prefix) c.deref-then-are_apart6.ensures.value (c.are_clear_of.ensures.0 clear))),
@@ -29,14 +29,14 @@ returns-else-are_apart6 c =
         λ t. absurd cc,
         λ d.
             let e : IsDisjoint inside.entries.items prefix = subst (λ xs. IsDisjoint xs prefix) (sym c.self.view_is) d in
-            let next = neighbours6_from_disjoint inside.entries.items inside.tries.trie4.nodes.items inside.tries.trie6.nodes.items inside.sorted4.items inside.sorted6.items prefix c.self.invariant e in
+            let next = neighbours6_from_disjoint inside.entries.items inside.intervals4 inside.intervals6 inside.sorted4.items inside.sorted6.items prefix c.self.invariant e in
             w.value-is ∙ w.are_apart6.ensures.1 (subst NeighboursApart6 (sym w.deref-then-are_apart4.ensures.value) next),
       )
       | else-are_apart4 w ↦ (
         λ t. absurd cc,
         λ d.
             let e : IsDisjoint inside.entries.items prefix = subst (λ xs. IsDisjoint xs prefix) (sym c.self.view_is) d in
-            let next = neighbours4_from_disjoint inside.entries.items inside.tries.trie4.nodes.items inside.tries.trie6.nodes.items inside.sorted4.items inside.sorted6.items prefix c.self.invariant e in
+            let next = neighbours4_from_disjoint inside.entries.items inside.intervals4 inside.intervals6 inside.sorted4.items inside.sorted6.items prefix c.self.invariant e in
             let apart = c.are_apart4.ensures.1 (subst NeighboursApart4 (sym c.deref.ensures.value) next) in
             absurd cc,
       )
