@@ -1,5 +1,5 @@
 -- What holds of a crossing holds of one whose files agree at all names that it speaks of.
-use Rattle.std.proofs.Common.{◌≡◌, inl, inr, ℕ, suc, ◌≤◌, List, length, Bool, Option, Some, None, IsTrue, Result, Ok, Err, refl, ap, sym, subst, ◌∙◌}
+use Rattle.std.proofs.Common.{◌≡◌, inl, inr, ℕ, suc, ◌≤◌, List, length, Bool, Option, Some, None, IsTrue, Result, Ok, Err, refl, ap, sym, subst, ◌∙◌, arith}
 use Rattle.siit_word.specs.Causes.{Rose}
 use Rattle.siit_word.specs.Files.{FilesMeaning, held}
 use Rattle.siit_capture.specs.Captures.{Records, records_of}
@@ -22,41 +22,46 @@ use Rattle.siit_running.specs.declared.fault.RunFault.TheVariants as faults
 use Rattle.siit_running.specs.declared.running.RunCounts.{RunCounts}
 use Rattle.siit_making.specs.Crossings.{IsNoCaptureFault}
 
--- at this name the same is known
+-- At this name the same is known of what the file holds.
 pub record Agree (a b : FilesMeaning) (q : List ℕ) : Type 0 where
   pub told : a.told q ≡ b.told q
   pub contents : a.contents q ≡ b.contents q
-  pub given : a.given q ≡ b.given q
-  pub write_faults : a.write_faults q ≡ b.write_faults q
+
+-- So is it at an output, before and after, and writing it failed as often at least between.
+pub record AgreeOut (a b c d : FilesMeaning) (q : List ℕ) : Type 0 where
+  pub before : Agree a b q
+  pub now : Agree c d q
+  pub fewer : b.write_faults q ≤ a.write_faults q
+  pub more : c.write_faults q ≤ d.write_faults q
 
 abbrev pub AgreeIn : (a b : FilesMeaning) → Option (List ℕ) → Type 0
 AgreeIn a b None = Unit {0}
-AgreeIn a b (Some q) = Agree a b q
+AgreeIn a b (Some q) = Agree a b q × (a.given q ≡ b.given q)
 
 -- ONE CAPTURE
 
 module _ (a b : FilesMeaning) where
   records_as : (n : Option (List ℕ)) → AgreeIn a b n → records_named a n ≡ records_named b n
   records_as None h = refl
-  records_as (Some q) h = ap (λ f. records_of (held f)) h.contents
+  records_as (Some q) h = ap (λ f. records_of (held f)) h.0.contents
 
   told_as : (n : Option (List ℕ)) → AgreeIn a b n → inputs.IsTold b n → inputs.IsTold a n
   told_as None h told = tt
-  told_as (Some q) h told = subst (λ (t : Bool). IsTrue t) (sym h.told) told
+  told_as (Some q) h told = subst (λ (t : Bool). IsTrue t) (sym h.0.told) told
 
   within_as : (n : Option (List ℕ)) → AgreeIn a b n → IsWithin a n → IsWithin b n
   within_as None h within = tt
-  within_as (Some q) h within = subst (λ (f : Option (List ℕ)). length (held f) ≤ 4294967296) h.contents within
+  within_as (Some q) h within = subst (λ (f : Option (List ℕ)). length (held f) ≤ 4294967296) h.0.contents within
 
 near_as : (a b c d : FilesMeaning) (n other : Option (List ℕ)) (rest : Records) → AgreeIn a b n → AgreeIn c d n → IsNearIn a c n other rest → IsNearIn b d n other rest
 near_as a b c d None other rest first last near = tt
 near_as a b c d (Some q) other rest first last near = λ apart.
-    subst (λ (g : Option ℕ). IsReadAhead g (d.given q) rest) first.given
-    (subst (λ (g : Option ℕ). IsReadAhead (a.given q) g rest) last.given (near apart))
+    subst (λ (g : Option ℕ). IsReadAhead g (d.given q) rest) first.1
+    (subst (λ (g : Option ℕ). IsReadAhead (a.given q) g rest) last.1 (near apart))
 
 -- A CROSSING
 
-module _ (chain : Chain Placed) (names : End → Option (List ℕ)) (outs : Output → Option (List ℕ)) (a b c d : FilesMeaning) (coming coming_now : ℕ → ℕ → ℕ) (captures : (end : End) → AgreeIn a b (names end) × AgreeIn c d (names end)) (outputs : (o : Output) (q : List ℕ) → outs o ≡ Some q → Agree a b q × Agree c d q) where
+module _ (chain : Chain Placed) (names : End → Option (List ℕ)) (outs : Output → Option (List ℕ)) (a b c d : FilesMeaning) (coming coming_now : ℕ → ℕ → ℕ) (captures : (end : End) → AgreeIn a b (names end) × AgreeIn c d (names end)) (outputs : (o : Output) (q : List ℕ) → outs o ≡ Some q → AgreeOut a b c d q) where
   abbrev crossing : (before now : FilesMeaning) → Crossing
   crossing before now = record {
     network = chain;
@@ -84,15 +89,15 @@ module _ (chain : Chain Placed) (names : End → Option (List ℕ)) (outs : Outp
   texts_as : (texts : Output → List ℕ) → HoldTexts outs c texts → HoldTexts outs d texts
   texts_as texts h = record {
     each = λ o q is told.
-        let same = (outputs o q is).1 in
+        let same = (outputs o q is).now in
         sym same.contents ∙ h.each o q is (subst (λ (t : Bool). IsTrue t) (sym same.told) told);
   }
 
   parts_as : (texts : Output → List ℕ) → HoldParts outs a c texts → HoldParts outs b d texts
   parts_as texts h = record {
     each = λ o q is told.
-        let before = (outputs o q is).0 in
-        let same = (outputs o q is).1 in
+        let before = (outputs o q is).before in
+        let same = (outputs o q is).now in
         elim (h.each o q is (subst (λ (t : Bool). IsTrue t) (sym same.told) told)) [
           | inl kept ↦ inl (sym same.contents ∙ kept ∙ before.contents)
           | inr part ↦ inr (part.0, part.1, sym same.contents ∙ part.2)
@@ -102,7 +107,7 @@ module _ (chain : Chain Placed) (names : End → Option (List ℕ)) (outs : Outp
   between_as : (least most : Output → List ℕ) → HoldBetween outs c least most → HoldBetween outs d least most
   between_as least most h = record {
     each = λ o q is told.
-        let same = (outputs o q is).1 in
+        let same = (outputs o q is).now in
         let part = h.each o q is (subst (λ (t : Bool). IsTrue t) (sym same.told) told) in
         (part.0, part.1, part.2, sym same.contents ∙ part.3);
   }
@@ -130,7 +135,7 @@ module _ (chain : Chain Placed) (names : End → Option (List ℕ)) (outs : Outp
   unread_at None q is first last same = absurd (cc)
   unread_at (Some p) q is first last same =
       let e : p ≡ q = cc in
-      sym (subst (λ (x : List ℕ). c.given x ≡ d.given x) e last.given) ∙ same ∙ subst (λ (x : List ℕ). a.given x ≡ b.given x) e first.given
+      sym (subst (λ (x : List ℕ). c.given x ≡ d.given x) e last.1) ∙ same ∙ subst (λ (x : List ℕ). a.given x ≡ b.given x) e first.1
 
   stops_near : StopsNear (crossing a c) → StopsNear (crossing b d)
   stops_near h = record {
@@ -148,8 +153,7 @@ module _ (chain : Chain Placed) (names : End → Option (List ℕ)) (outs : Outp
         output = h.output;
         name = h.name;
         named = h.named;
-        failed = subst (λ (n : ℕ). Rose n (d.write_faults h.name)) same.0.write_faults
-            (subst (λ (n : ℕ). Rose (a.write_faults h.name) n) same.1.write_faults h.failed);
+        failed = omega (arith, h.failed, same.fewer, same.more);
       }
 
   pub holds_as : (result : Result RunCounts RunFault) → (faultless : (fault : RunFault) → result ≡ Err fault → IsNoCaptureFault fault)

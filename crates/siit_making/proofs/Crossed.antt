@@ -22,7 +22,7 @@ use Rattle.siit_running.specs.declared.running.RunCounts.{RunCounts}
 use Rattle.siit_making.specs.Captures.{generated_capture}
 use Rattle.siit_making.specs.Crossings.{AreTexts, IsNoCaptureFault, generated_crossing, left_capture}
 use Rattle.siit_making.specs.Through.{Sight, capture, contents_by, given_by, marked_sight, read_faults_by, told_by, with_capture, with_marks, write_faults_by}
-use Rattle.siit_making.proofs.Agreeing.{Agree, AgreeIn, holds_as}
+use Rattle.siit_making.proofs.Agreeing.{Agree, AgreeIn, AgreeOut, holds_as}
 use Rattle.siit_making.proofs.Beneath.{same_capture, same_reference, same_text, touches_beneath}
 use Rattle.siit_making.proofs.Faultless.{run_finishes}
 use Rattle.siit_making.proofs.Parts.{capture_read, capture_short}
@@ -84,20 +84,34 @@ module _ (chain : Chain Placed) (count seed : ℕ) (few : count ≤ 100000) (nam
         record {
           told = ap (λ (s : Sight). told_by s files) same;
           contents = ap (λ (s : Sight). contents_by s files bytes) same;
-          given = ap (λ (s : Sight). given_by s files) same;
-          write_faults = ap (λ (s : Sight). write_faults_by s files) same;
         }
+
+    agree_in : (files : FilesMeaning) → AgreeIn (with_marks number files name bytes) (with_capture files name bytes) (Some name)
+    agree_in files = (agree files name text, ap (λ (s : Sight). given_by s files) (sight_of_text number name name text))
 
     agree_left : (end : End) → AgreeIn (with_marks number a name bytes) (with_capture a name bytes) (left_capture name end)
         × AgreeIn (with_marks number b name bytes) (with_capture b name bytes) (left_capture name end)
-    agree_left Left = (agree a name text, agree b name text)
+    agree_left Left = (agree_in a, agree_in b)
     agree_left Right = (tt, tt)
+
+    faults_same : (files : FilesMeaning) (q : List ℕ) → IsUtf8 q
+        → (with_marks number files name bytes).write_faults q ≡ (with_capture files name bytes).write_faults q
+    faults_same files q utf8 = ap (λ (s : Sight). write_faults_by s files) (sight_of_text number name q utf8)
+
+    agree_out : (o : Output) (q : List ℕ) → name_in outs o ≡ Some q
+        → AgreeOut (with_marks number a name bytes) (with_capture a name bytes) (with_marks number b name bytes) (with_capture b name bytes) q
+    agree_out o q is = record {
+      before = agree a q (texts o q is);
+      now = agree b q (texts o q is);
+      fewer = omega (arith, faults_same a q (texts o q is));
+      more = omega (arith, faults_same b q (texts o q is));
+    }
 
     beneath : (result : Result RunCounts RunFault) → HoldsAfter (marked number (with_marks number b name bytes)) result
         → HoldsAfter (generated_crossing chain count seed name (name_in outs) a b coming coming_now) result
     beneath result h =
         holds_as chain (left_capture name) (name_in outs) (with_marks number a name bytes) (with_capture a name bytes) (with_marks number b name bytes)
-        (with_capture b name bytes) coming coming_now agree_left (λ o q is. (agree a q (texts o q is), agree b q (texts o q is))) result (faultless result h) h
+        (with_capture b name bytes) coming coming_now agree_left agree_out result (faultless result h) h
 
   fault_of : (result : Result RunCounts RunFault) → ((fault : RunFault) → result ≡ Err fault → IsNoCaptureFault fault) → IfErr result IsNoCaptureFault
   fault_of (Ok counts) none = tt

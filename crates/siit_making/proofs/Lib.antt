@@ -6,3 +6,4 @@ pub mod Beneath
 pub mod Agreeing
 pub mod Faultless
 pub mod Crossed
+pub mod Earlier

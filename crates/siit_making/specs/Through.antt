@@ -68,8 +68,8 @@ with_capture files name bytes = seen (plain_sight name) files bytes
 -- MARKS
 
 -- A list that begins with a number that is no byte is no text, and so no name that a call is given. Such marks tell who
--- hands out a reference to files, and gets it back, what isn't seen otherwise: what the hidden file holds, and whether it
--- is this reference still.
+-- hands out a reference to files, and gets it back, what isn't seen otherwise: what the hidden file holds, and whether
+-- it is this reference still.
 abbrev pub no_byte : ℕ
 no_byte = 256
 

@@ -83,9 +83,9 @@ impl GeneratedCapture {
         self.hand.bytes()
     }
 
-    /// Copies bytes of the capture, from the place `at` on, to the front of `into`, and says how many: those of one part
-    /// at most, and none only behind the end. Who reads on from where the last call ended has each part made once. For a
-    /// place before the part at hand the capture is made again from its start.
+    /// Copies bytes of the capture, from the place `at` on, to the front of `into`, and says how many: those of one
+    /// part at most, and none only behind the end. Who reads on from where the last call ended has each part made once.
+    /// For a place before the part at hand the capture is made again from its start.
     pub(crate) fn read(&mut self, at: u64, into: &mut [u8]) -> usize
         ensures bound { result ≤ length into.new }
         ensures copied { Copies (Some (generated_capture self.old.count self.old.seed)) at result into.new }
