@@ -93,10 +93,14 @@ def by_program(cases, work):
         stderr=subprocess.STDOUT,
         text=True,
     )
-    answers = re.findall(r"^== (\d+)\n(.*\n)case=\1 run=ended status=(\d+) ", run.stdout, re.M)
+    # What standard error says follows the line that is printed.
+    answers = re.findall(r"^== (\d+)\n(.*\n)((?:.*\n)*?)case=\1 run=ended status=(\d+) ", run.stdout, re.M)
     if len(answers) != len(cases):
         sys.exit(f"{run.stdout}examples: the program didn't answer each of the {len(cases)} commands")
-    return [(line, int(status)) for _, line, status in answers]
+    for _, line, said, status in answers:
+        if bool(said) != (status in ("2", "4", "5")):
+            sys.exit(f"examples: at status {status} with the line {line!r} standard error says {said!r}")
+    return [(line, int(status)) for _, line, _, status in answers]
 
 
 # What a capture of right packets doesn't show. Where a quote is cut short, tshark takes the checksum of its TCP for wrong: that isn't asked.
