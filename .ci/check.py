@@ -315,13 +315,13 @@ def check_names(document, names):
 
 
 def check_prose(document):
-    """The lines of prose of the repository's own documents keep to the limit. Tables, commands and code do as they must."""
+    """Lines of prose keep to the limit. Tables, commands and code do as they must."""
     is_code = False
     for number, line in enumerate(read(document).splitlines(), 1):
         is_code ^= line.startswith('```')
         if MACHINE.search(line):
             fault(document, f'line {number} names a folder of a machine')
-        if len(line) > PROSE_LIMIT and not is_code and not line.startswith(('|', '    ')) and document.parent in (TOP, TOP / 'docs'):
+        if len(line) > PROSE_LIMIT and not is_code and not line.startswith(('|', '    ')):
             fault(document, f'line {number} has {len(line)} columns')
 
 
