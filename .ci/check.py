@@ -2,9 +2,10 @@
 """The repository's own check: that documents name what there is, and that the tree keeps its form. Prints each fault; ends with 1 if there is one.
 With the word `believed` it writes the first table of docs/DEFINITIONS.md anew, and checks then.
 
-Of each crate: its must-fail edits can be applied, and its README names these and no others; the architecture names it. Of definitions: each word that a
-public contract cites is listed, each word that is listed exists where its row says, and none that a public contract cites stands in two crates; the words
-to which the contracts of the top crate lead are those of the first table. Of documents: links, paths, crates and calls that they name exist, lines keep to the limit, the README to its words. Of the tree: sources stand in crates that
+Of each crate: its must-fail edits can be applied, and its README names these and no others; the architecture names it. Of definitions: each word that
+a public contract cites is listed, each word that is listed exists where its row says, and none that a public contract cites stands in two crates; the
+words to which the contracts of the top crate lead are those of the first table. Of documents: links, paths, crates and calls that they name exist,
+lines keep to the limit, the README to its words, and no sentence of more than eight words stands in two. Of the tree: sources stand in crates that
 are listed, comments keep to the limit, nothing names the machine that it was made on, and nothing else stands at the top.
 """
 import re
@@ -17,6 +18,7 @@ TOP = Path(__file__).resolve().parent.parent
 COMMENT_LIMIT = 120
 PROSE_LIMIT = 150
 README_WORDS = 500
+REPEATED_WORDS = 8
 AT_TOP = {'README.md', 'HANDLES', 'crates.txt', 'siit', '.gitignore', '.gitattributes', '.ci', 'docs', 'examples', 'crates', '.git'}
 NAME = r"[A-Za-z_][\w'◌-]*"
 PUBLIC = re.compile(rf'^(?:[ \t]*abbrev pub|[ \t]*unfoldable pub|pub record|pub data|pub) ({NAME})', re.M)
@@ -325,6 +327,22 @@ def check_prose(document):
             fault(document, f'line {number} has {len(line)} columns')
 
 
+def sentences(document):
+    """The sentences of a document's prose and of the cells of its tables, as their words. Commands and code are none."""
+    text = re.sub(r'^```.*?^```|^    .*?$', '', read(document), flags=re.M | re.S)
+    for block in re.split(r'\n\s*\n|\n(?=[-|] )|(?<=\|)\n| \| ', text):
+        for sentence in re.split(r'(?<=[.;:?])\s+', ' '.join(block.split())):
+            yield ' '.join(re.findall(r"[\w'`/.-]+", sentence.lower())).rstrip('.')
+
+
+def check_repeats():
+    homes = {}
+    for document in documents():
+        for sentence in sentences(document):
+            if len(sentence.split()) > REPEATED_WORDS and homes.setdefault(sentence, document) != document:
+                fault(document, f'a sentence of {homes[sentence].relative_to(TOP)}: {sentence}')
+
+
 def check_documents(names):
     for document in documents():
         check_links(document)
@@ -333,6 +351,7 @@ def check_documents(names):
     for crate in names:
         if f'`{crate}`' not in read(TOP / 'docs' / 'ARCHITECTURE.md'):
             fault(TOP / 'docs' / 'ARCHITECTURE.md', f'{crate} is not named')
+    check_repeats()
     words = len(read(TOP / 'README.md').split())
     if words > README_WORDS:
         fault(TOP / 'README.md', f'{words} words, and {README_WORDS} are its limit')
