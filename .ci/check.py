@@ -5,8 +5,9 @@ With the word `believed` it writes the first table of docs/DEFINITIONS.md anew, 
 Of each crate: its must-fail edits can be applied, and its README names these and no others; the architecture names it. Of definitions: each word that
 a public contract cites is listed, each word that is listed exists where its row says, and none that a public contract cites stands in two crates; the
 words to which the contracts of the top crate lead are those of the first table. Of documents: links, paths, crates and calls that they name exist,
-lines keep to the limit, the README to its words, and no sentence of more than eight words stands in two. Of the tree: sources stand in crates that
-are listed, comments keep to the limit, nothing names the machine that it was made on, and nothing else stands at the top.
+lines keep to the limit, the README to its words, and the list of rules is that of the definitions, no sentence of more than eight words stands in
+two. Of the tree: sources stand in crates that are listed, comments keep to the limit, nothing names the machine that it was made on, and nothing else
+stands at the top.
 """
 import re
 import sys
@@ -343,6 +344,17 @@ def check_repeats():
                 fault(document, f'a sentence of {homes[sentence].relative_to(TOP)}: {sentence}')
 
 
+def check_rules():
+    """Number, name and answer of each rule in the document are those of its row in the definitions."""
+    document = TOP / 'docs' / 'RULES.md'
+    rows = read(TOP / 'crates' / 'siit_rules' / 'specs' / 'Rows.antt')
+    defined_rows = re.findall(r'^row_of \w+ = row (\d+) \(codes "(\w+)"\) (?:(Silent)|\(Icmp[46] (\d+) (\d+)\))', rows, re.M)
+    wanted = {(number, name, silent.lower() or f'{kind}/{code}') for number, name, silent, kind, code in defined_rows}
+    said = set(re.findall(r'^\| (\d+) \| (\w+) \| .* \| ([\w/]+)[^|]* \|$', read(document), re.M))
+    for row in sorted(wanted ^ said, key=lambda row: int(row[0])):
+        fault(document, f"{'there is no such rule' if row in said else 'it lacks the rule'}: {' '.join(row)}")
+
+
 def check_documents(names):
     for document in documents():
         check_links(document)
@@ -352,6 +364,7 @@ def check_documents(names):
         if f'`{crate}`' not in read(TOP / 'docs' / 'ARCHITECTURE.md'):
             fault(TOP / 'docs' / 'ARCHITECTURE.md', f'{crate} is not named')
     check_repeats()
+    check_rules()
     words = len(read(TOP / 'README.md').split())
     if words > README_WORDS:
         fault(TOP / 'README.md', f'{words} words, and {README_WORDS} are its limit')
